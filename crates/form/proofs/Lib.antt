@@ -1,0 +1,4 @@
+pub mod Laws
+pub mod Words
+pub mod Lines
+pub mod Whole
