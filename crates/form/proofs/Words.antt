@@ -18,8 +18,8 @@ use Rattle.std.specs.shelf.Text.{allDigits, sameBytes}
 use Rattle.std.proofs.shelf.Decimals.{decimal-value, decimal-digit, digits-decimal, value-decimal, decimal-some, first-decimal}
 use Rattle.std.proofs.shelf.Equals.{sameBytes-decides}
 use Rattle.std.proofs.shelf.Numerals.{Numerals, numerals-by-fold, tells-allDigits}
-use Rattle.std.proofs.shelf.Tests.{and-parts, and-from, leb-true, or-cases, ltb-true, lt-ltb, eqb-true, ne-eqb, eqb-false, not-true, not-from-false, false≢true, cases-bool}
-use Rattle.form.specs.Sheets.{Number, NameOk, isName, nameByte, nameBytes, bitLetter, WordOk, priceText}
+use Rattle.std.proofs.shelf.Tests.{and-parts, and-from, leb-true, or-cases, ltb-true, lt-ltb, eqb-true, ne-eqb, eq-eqb, eqb-false, not-true, not-from-false, false≢true, cases-bool}
+use Rattle.form.specs.Sheets.{Number, NameOk, isName, nameByte, each, bitLetter, WordOk, priceText}
 use Rattle.form.specs.declared.Kind.{Kind}
 use Rattle.form.specs.declared.Kind.the-variants.{Routes, Lots, Words}
 use Rattle.form.specs.declared.Letter.{Letter}
@@ -41,10 +41,16 @@ plain-parts [] e = absurd (false≢true e)
 plain-parts (c ∷ []) e = (omega arith, λ _. refl)
 plain-parts (c ∷ (d ∷ ds)) e = (omega arith, λ q. absurd (eqb-false c 48 (not-true (eqb c 48) e) q))
 
-plain-from : (w : List ℕ) → 0 < length w → (getD w 0 0 ≡ 48 → length w ≡ 1) → plain w ≡ true
+pub plain-from : (w : List ℕ) → 0 < length w → (getD w 0 0 ≡ 48 → length w ≡ 1) → plain w ≡ true
 plain-from [] l z = absurd (omega arith)
 plain-from (c ∷ []) l z = refl
 plain-from (c ∷ (d ∷ ds)) l z = not-from-false (eqb c 48) (ne-eqb c 48 (λ q. let k : suc (suc (length ds)) ≡ 1 = z q in omega arith))
+
+-- a zero that more digits follow
+pub plain-not : (w : List ℕ) → getD w 0 0 ≡ 48 → 1 < length w → plain w ≡ false
+plain-not [] z l = absurd (omega arith)
+plain-not (c ∷ []) z l = absurd (omega arith)
+plain-not (c ∷ (d ∷ ds)) z l = ap not (eq-eqb c 48 z)
 
 high-digits : (w : List ℕ) → allDigits w ≡ true → All (λ b. 48 ≤ b) w
 high-digits [] e = tt
@@ -92,9 +98,9 @@ high-byte b e =
       | inr h ↦ leb-true 48 b (and-parts (leb 48 b) (leb b 57) h .0)
     ]
 
-high-name : (w : List ℕ) → nameBytes w ≡ true → All (λ b. 48 ≤ b) w
+high-name : (w : List ℕ) → each nameByte w ≡ true → All (λ b. 48 ≤ b) w
 high-name [] e = tt
-high-name (b ∷ bs) e = let h = and-parts (nameByte b) (nameBytes bs) e in (high-byte b (h .0), high-name bs (h .1))
+high-name (b ∷ bs) e = let h = and-parts (nameByte b) (each nameByte bs) e in (high-byte b (h .0), high-name bs (h .1))
 
 pub word-name : Word name NameOk (λ w. w)
 word-name = record {
@@ -103,8 +109,8 @@ word-name = record {
       (subst (λ (v : List ℕ). isName v ≡ true) (h .1) (h .0), sym (h .1));
   complete = λ w g. ap (λ t. cond t (Some w) None) g;
   high = λ w g.
-      let h = and-parts (leb 1 (length w)) (leb (length w) 12 && nameBytes w) g in
-      high-name w (and-parts (leb (length w) 12) (nameBytes w) (h .1) .1);
+      let h = and-parts (leb 1 (length w)) (leb (length w) 12 && each nameByte w) g in
+      high-name w (and-parts (leb (length w) 12) (each nameByte w) (h .1) .1);
 }
 
 then-bitLetter : (b : Bool) (o : Option (List Bool)) (a : List Bool) → bitThen b o ≡ Some a → (w : List Bool) × (o ≡ Some w) × (a ≡ b ∷ w)
@@ -181,14 +187,19 @@ abbrev pub letterText : Letter → List ℕ
 letterText K = codes "k"
 letterText R = codes "r"
 
-letter-by : (w : List ℕ) (r s : Bool) → sameBytes w (codes "k") ≡ r → sameBytes w (codes "r") ≡ s → (a : Letter) → cond r (Some K) (cond s (Some R) None) ≡ Some a → letterText a ≡ w
-letter-by w true s p q a e = let k : K ≡ a = cc in ap letterText (sym k) ∙ sym (sameBytes-decides w (codes "k") .0 p)
-letter-by w false true p q a e = let k : R ≡ a = cc in ap letterText (sym k) ∙ sym (sameBytes-decides w (codes "r") .0 q)
-letter-by w false false p q a e = let z : _≡_ {A = ℕ} 0 1 = cc in absurd (omega arith)
+letter-by : (b : ℕ) (r s : Bool) → eqb b 107 ≡ r → eqb b 114 ≡ s → (a : Letter) → cond r (Some K) (cond s (Some R) None) ≡ Some a → letterText a ≡ b ∷ []
+letter-by b true s p q a e = let k : K ≡ a = cc in ap letterText (sym k) ∙ ap (λ x. x ∷ []) (sym (eqb-true b 107 p))
+letter-by b false true p q a e = let k : R ≡ a = cc in ap letterText (sym k) ∙ ap (λ x. x ∷ []) (sym (eqb-true b 114 q))
+letter-by b false false p q a e = let z : _≡_ {A = ℕ} 0 1 = cc in absurd (omega arith)
+
+letter-text : (w : List ℕ) (a : Letter) → letter w ≡ Some a → letterText a ≡ w
+letter-text [] a e = let z : _≡_ {A = ℕ} 0 1 = cc in absurd (omega arith)
+letter-text (b ∷ []) a e = letter-by b (eqb b 107) (eqb b 114) refl refl a e
+letter-text (b ∷ (c ∷ cs)) a e = let z : _≡_ {A = ℕ} 0 1 = cc in absurd (omega arith)
 
 pub word-letter : Word letter (λ _. Unit {0}) letterText
 word-letter = record {
-  sound = λ w a e. (tt, letter-by w (sameBytes w (codes "k")) (sameBytes w (codes "r")) refl refl a e);
+  sound = λ w a e. (tt, letter-text w a e);
   complete = λ a g. read a;
   high = λ a g. tall a;
 }

@@ -146,9 +146,11 @@ kind w =
     cond (sameBytes w (codes "routes")) (Some Routes)
     (cond (sameBytes w (codes "lots")) (Some Lots) (cond (sameBytes w (codes "words")) (Some Words) None))
 
--- the letter of an entry
+-- the one letter of an entry: k or r
 abbrev pub letter : List ℕ → Option Letter
-letter w = cond (sameBytes w (codes "k")) (Some K) (cond (sameBytes w (codes "r")) (Some R) None)
+letter [] = None
+letter (b ∷ []) = cond (eqb b 107) (Some K) (cond (eqb b 114) (Some R) None)
+letter (b ∷ (c ∷ cs)) = None
 
 -- ## Lines
 

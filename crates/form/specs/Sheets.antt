@@ -131,14 +131,14 @@ Number n = n < 2 ^ 32
 abbrev pub nameByte : ℕ → Bool
 nameByte b = (leb 97 b && leb b 122) || (leb 48 b && leb b 57)
 
--- each byte is a letter or a digit
-abbrev pub nameBytes : List ℕ → Bool
-nameBytes [] = true
-nameBytes (b ∷ bs) = nameByte b && nameBytes bs
+-- whether each byte passes the test
+abbrev pub each : (ℕ → Bool) → List ℕ → Bool
+each test [] = true
+each test (b ∷ bs) = test b && each test bs
 
 -- 1 to 12 letters and digits
 abbrev pub isName : List ℕ → Bool
-isName w = leb 1 (length w) && (leb (length w) most-letters && nameBytes w)
+isName w = leb 1 (length w) && (leb (length w) most-letters && each nameByte w)
 
 -- the name of a place or a lamp
 abbrev pub NameOk : Name → Type 0

@@ -1,0 +1,45 @@
+-- What the code's reader does, in the words of the form. Assumes nothing.
+use mathlib.Core.Path.{_≡_}
+use mathlib.Core.List.{List}
+use Prim.Native.Nat.{ℕ, _+_, _<_}
+use denote.Ref.{RefT}
+use lib.ListN.{length}
+use Rattle.std.specs.declared.option.Option.{Option}
+use Rattle.std.specs.declared.option.Option.the-variants.{None, Some}
+use Rattle.std.specs.declared.result.Result.{Result}
+use Rattle.std.specs.declared.result.Result.the-variants.{Ok, Err}
+use Rattle.fault.specs.declared.Fault.{Fault}
+use Rattle.fault.specs.Refusals.{refusal}
+use Rattle.entry.specs.Entries.{Entry, Known, Range}
+use Rattle.form.specs.Reading.{Got, got, stop, Step, cut}
+use Rattle.sheet.specs.declared.reader.Reader.{Reader}
+use Rattle.sheet.specs.declared.reader.RawEntry.{RawEntry}
+use Rattle.sheet.specs.declared.reader.RawEntry.the-variants.{Known as RawKnown, Range as RawRange}
+
+-- the bytes that are left
+abbrev pub left : Reader → List ℕ
+left r = r .rest .now
+
+-- falls with each field, and never rises: so the line's number fits
+abbrev pub room : Reader → ℕ
+room r = r .line + length (left r)
+
+-- r is the field before the first byte c, and the reader goes on after that byte
+abbrev pub Cut : Option (RefT (List ℕ)) → ℕ → Reader → Reader → Type 0
+Cut (Some w) c old new = (cut c (left old) ≡ Some (w .now, left new)) × (new .line ≡ old .line) × (length (left new) < length (left old))
+Cut None c old new = (cut c (left old) ≡ None) × (new .line ≡ old .line)
+
+-- the fault is the refusal that a step stopped with
+pub record Stops {A : Type 0} (g : Got A) (f : Fault) : Type 0 where
+  pub with : g ≡ stop (refusal f .number) (refusal f .place)
+  pub flat : refusal f .depth ≡ 0
+
+-- r is what the step s gets at the reader, which then stands after it; or it is the step's refusal
+abbrev pub Reads : {X A : Type 0} → (X → A) → Step A → Reader → Result X Fault → Reader → Type 0
+Reads value s old (Ok x) new = s (left old) (old .line) ≡ got (value x) (left new) (new .line)
+Reads value s old (Err f) new = Stops (s (left old) (old .line)) f
+
+-- an entry as it is written
+abbrev pub rawOf : RawEntry → Entry
+rawOf (RawKnown p) = Known p
+rawOf (RawRange low high) = Range low high

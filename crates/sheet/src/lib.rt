@@ -1,0 +1,10 @@
+// Sheets: read from bytes, and written as bytes.
+mod fields;
+mod reader;
+mod values;
+
+pub use values::Body;
+pub use values::ByKind;
+pub use values::ElementLine;
+pub use values::Lot;
+pub use values::Sheet;
