@@ -204,10 +204,13 @@ lotTail = record { fields = λ n. field newline number; names = λ n k. ltb k n 
 abbrev pub wordTail : Tail (List Bool)
 wordTail = record { fields = λ n. field newline (word n); names = λ n w. true }
 
--- an element: first its form, then its range, then what its numbers name
+-- what follows the entry e on an element's line: first its form, then the test of e, then what its numbers name
+abbrev pub elementRest : {T : Type 0} → Tail T → ℕ → Entry → Step (Element T)
+elementRest tail n e = tail .fields n >>= λ t. need 4 (lowBelowHigh e) >> (need 5 (tail .names n t) >> done (e, t))
+
+-- an element
 abbrev pub elementLine : {T : Type 0} → Tail T → ℕ → Step (Element T)
-elementLine tail n =
-    line (entry >>= λ e. tail .fields n >>= λ t. need 4 (lowBelowHigh e) >> (need 5 (tail .names n t) >> done (e, t)))
+elementLine tail n = line (entry >>= elementRest tail n)
 
 -- the record's element is above that of the record before
 abbrev pub rises : Option Recorded → ℕ → Bool

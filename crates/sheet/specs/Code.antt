@@ -8,7 +8,11 @@ use lib.Dec.{eqb}
 use lib.ListN.{length}
 use Rattle.std.specs.declared.option.Option.{Option}
 use Rattle.std.specs.declared.option.Option.the-variants.{None, Some}
-use Rattle.form.specs.Sheets.{Name, each}
+use Rattle.form.specs.Sheets.{Name, Element, Recorded, each}
+use Rattle.element.specs.declared.Line.{Line}
+use Rattle.entry.specs.Held.{held}
+use Rattle.kinds.specs.declared.Route.{Route}
+use Rattle.sheet.specs.declared.values.ElementLine.{ElementLine}
 use Rattle.sheet.specs.declared.values.Lot.{Lot}
 
 -- what an optional value counts as
@@ -42,3 +46,15 @@ itself x = x
 -- a lot's line
 abbrev pub lotOf : Lot → Name × ℕ
 lotOf l = (l .name .now, l .cap)
+
+-- the two places of a route
+abbrev pub routeOf : Route → ℕ × ℕ
+routeOf r = (r .from, r .to)
+
+-- a recorded price
+abbrev pub recordOf : Line → Recorded
+recordOf l = (l .element, l .price)
+
+-- an element's line
+abbrev pub elementOf : {X A : Type 0} → (X → A) → ElementLine X → Element A
+elementOf value e = (held (e .entry), value (e .tail))

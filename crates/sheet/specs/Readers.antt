@@ -1,5 +1,6 @@
 -- What the code's reader does, in the words of the form. Assumes nothing.
 use mathlib.Core.Path.{_≡_}
+use mathlib.Core.Bool.{cond}
 use mathlib.Core.List.{List}
 use Prim.Native.Nat.{ℕ, _+_, _<_}
 use denote.Ref.{RefT}
@@ -11,7 +12,7 @@ use Rattle.std.specs.declared.result.Result.the-variants.{Ok, Err}
 use Rattle.fault.specs.declared.Fault.{Fault}
 use Rattle.fault.specs.Refusals.{refusal}
 use Rattle.entry.specs.Entries.{Entry, Known, Range}
-use Rattle.form.specs.Reading.{Got, got, stop, Step, cut}
+use Rattle.form.specs.Reading.{Got, got, stop, Step, _>>=_, done, cut, Tail}
 use Rattle.sheet.specs.declared.reader.Reader.{Reader}
 use Rattle.sheet.specs.declared.reader.RawEntry.{RawEntry}
 use Rattle.sheet.specs.declared.reader.RawEntry.the-variants.{Known as RawKnown, Range as RawRange}
@@ -43,3 +44,12 @@ Reads value s old (Err f) new = Stops (s (left old) (old .line)) f
 abbrev pub rawOf : RawEntry → Entry
 rawOf (RawKnown p) = Known p
 rawOf (RawRange low high) = Range low high
+
+-- the line before, as the form sees it
+abbrev pub beforeOf : {X A : Type 0} → (X → A) → Option (RefT X) → Option A
+beforeOf value None = None
+beforeOf value (Some x) = Some (value (x .now))
+
+-- what the fields of a tail name, or none where they name nothing
+abbrev pub seen : {T : Type 0} → Tail T → ℕ → Step (Option T)
+seen tail n = tail .fields n >>= λ t. done (cond (tail .names n t) (Some t) None)

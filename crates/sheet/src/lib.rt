@@ -1,5 +1,6 @@
 // Sheets: read from bytes, and written as bytes.
 mod fields;
+mod lines;
 mod reader;
 mod values;
 
