@@ -1,7 +1,10 @@
 -- What each fault says: its number, its place and its depth. Assumes nothing.
 --     refusal f      the number, place and depth of the fault f
 --     told value r   what a call answered, a fault by what it says
+--     starved r      the call found no memory
+use mathlib.Core.Bool.{Bool, false}
 use Prim.Native.Nat.{ℕ}
+use lib.Dec.{eqb}
 use Rattle.std.specs.declared.result.Result.{Result}
 use Rattle.std.specs.declared.result.Result.the-variants.{Ok, Err}
 use Rattle.fault.specs.declared.Fault.{Fault}
@@ -41,3 +44,8 @@ refusal DependentSet = refused 16 0 0
 abbrev pub told : {X A : Type 0} → (X → A) → Result X Fault → Result A Refusal
 told value (Ok x) = Ok (value x)
 told value (Err f) = Err (refusal f)
+
+-- whether a call found no memory for its answer
+abbrev pub starved : {X : Type 0} → Result X Fault → Bool
+starved (Ok x) = false
+starved (Err f) = eqb (refusal f .number) 0

@@ -6,12 +6,16 @@ use Prim.Native.Nat.{ℕ, _+_, _<_}
 use denote.Ref.{RefT}
 use lib.Dec.{eqb}
 use lib.ListN.{length}
+use Rattle.std.specs.Of.Vec.{vec-items}
 use Rattle.std.specs.declared.option.Option.{Option}
 use Rattle.std.specs.declared.option.Option.the-variants.{None, Some}
-use Rattle.form.specs.Sheets.{Name, Element, Recorded, each}
+use Rattle.form.specs.Sheets.{Name, Element, Recorded, Body, Sheet, routes, lots, words, each}
 use Rattle.element.specs.declared.Line.{Line}
 use Rattle.entry.specs.Held.{held}
 use Rattle.kinds.specs.declared.Route.{Route}
+use Rattle.sheet.specs.declared.values.Body.{Body as Held}
+use Rattle.sheet.specs.declared.values.ByKind.{ByKind}
+use Rattle.sheet.specs.declared.values.ByKind.the-variants.{Routes, Lots, Words}
 use Rattle.sheet.specs.declared.values.ElementLine.{ElementLine}
 use Rattle.sheet.specs.declared.values.Lot.{Lot}
 
@@ -58,3 +62,22 @@ recordOf l = (l .element, l .price)
 -- an element's line
 abbrev pub elementOf : {X A : Type 0} → (X → A) → ElementLine X → Element A
 elementOf value e = (held (e .entry), value (e .tail))
+
+-- a body, over what its places and tails count as
+abbrev pub bodyOf : {X Y P T : Type 0} → (X → P) → (Y → T) → Held X Y → Body P T
+bodyOf place tail b = record {
+  allowance = b .allowance;
+  places = map place (vec-items (b .places));
+  elements = map (elementOf tail) (vec-items (b .elements));
+  recorded = map recordOf (vec-items (b .recorded));
+}
+
+-- a sheet as the code holds it
+abbrev pub HeldSheet : Type 0
+HeldSheet = ByKind (Held (RefT (List ℕ)) Route) (Held Lot ℕ) (Held (RefT (List ℕ)) (RefT (List ℕ)))
+
+-- the sheet that it is
+abbrev pub sheetOf : HeldSheet → Sheet
+sheetOf (Routes b) = routes (bodyOf bytes routeOf b)
+sheetOf (Lots b) = lots (bodyOf lotOf itself b)
+sheetOf (Words b) = words (bodyOf bytes wordOf b)

@@ -1,10 +1,11 @@
 -- What the code's reader does, in the words of the form. Assumes nothing.
 use mathlib.Core.Path.{_≡_}
 use mathlib.Core.Bool.{cond}
-use mathlib.Core.List.{List}
-use Prim.Native.Nat.{ℕ, _+_, _<_}
+use mathlib.Core.List.{List, []}
+use Prim.Native.Nat.{ℕ, _+_, _<_, _≤_}
 use denote.Ref.{RefT}
 use lib.ListN.{length}
+use Rattle.std.specs.Of.Vec.{vec-cap, vec-items}
 use Rattle.std.specs.declared.option.Option.{Option}
 use Rattle.std.specs.declared.option.Option.the-variants.{None, Some}
 use Rattle.std.specs.declared.result.Result.{Result}
@@ -14,6 +15,7 @@ use Rattle.fault.specs.Refusals.{refusal}
 use Rattle.entry.specs.Entries.{Entry, Known, Range}
 use Rattle.form.specs.Reading.{Got, got, stop, Step, _>>=_, done, cut, Tail}
 use Rattle.sheet.specs.declared.reader.Reader.{Reader}
+use Rattle.sheet.specs.declared.values.Body.{Body}
 use Rattle.sheet.specs.declared.reader.RawEntry.{RawEntry}
 use Rattle.sheet.specs.declared.reader.RawEntry.the-variants.{Known as RawKnown, Range as RawRange}
 
@@ -53,3 +55,12 @@ beforeOf value (Some x) = Some (value (x .now))
 -- what the fields of a tail name, or none where they name nothing
 abbrev pub seen : {T : Type 0} → Tail T → ℕ → Step (Option T)
 seen tail n = tail .fields n >>= λ t. done (cond (tail .names n t) (Some t) None)
+
+-- a body without lines, with room for `most` lines in each section
+pub record Empty {P T : Type 0} (most : ℕ) (b : Body P T) : Type 0 where
+  pub places : vec-items (b .places) ≡ []
+  pub elements : vec-items (b .elements) ≡ []
+  pub recorded : vec-items (b .recorded) ≡ []
+  pub places-room : most ≤ vec-cap (b .places)
+  pub elements-room : most ≤ vec-cap (b .elements)
+  pub recorded-room : most ≤ vec-cap (b .recorded)

@@ -2,6 +2,7 @@
 mod fields;
 mod lines;
 mod reader;
+mod sections;
 mod values;
 
 pub use values::Body;
