@@ -22,7 +22,7 @@ use Rattle.form.specs.Sheets.{Name, Element, Recorded, Body, Sheet, routes, lo
 use Rattle.form.specs.declared.Kind.{Kind}
 use Rattle.form.specs.declared.Kind.the-variants.{Routes, Lots, Words}
 use Rattle.form.specs.Reading.{Got, got, stop, Step, nameLine, lotLine, lowBelowHigh, Tail, routeTail, lotTail, wordTail, rises, body, bodyOf, sheet, whole, checked}
-use Rattle.form.specs.Theorem.{AcceptsTheWritten, ReadsBack, OneSheet}
+use Rattle.form.specs.Theorem.{AcceptsTheWritten, ReadsBack, OneSheet, Tells}
 use Rattle.form.proofs.Laws.{Law, law-done, law-then, law-like, Chain}
 use Rattle.form.proofs.Words.{kindText}
 use Rattle.form.proofs.Lines.{law-heading, law-name, law-lot, EntryForm, RouteForm, law-route, law-lotNumber, law-word, ElementForm, law-element, RecordedForm, law-recorded, law-counted}
@@ -273,3 +273,14 @@ one-sheet s t l k e =
     let q = reads-back t k in
     let r : checked (written s) ≡ checked (written t) = ap checked e in
     cc
+
+apart : (s : Sheet) (f : Refusal) → _≡_ {A = Result Sheet Refusal} (Ok s) (Err f) → ⊥
+apart s f e = let z : _≡_ {A = ℕ} 0 1 = cc in omega arith
+
+tells-of : (r : Result Sheet Refusal) (bs : List ℕ) → checked bs ≡ r → Tells r bs
+tells-of (Ok s) bs h = accepts-the-written bs s .0 h
+tells-of (Err f) bs h = λ s l w. apart s f (sym (accepts-the-written bs s .1 (l, w)) ∙ h)
+
+-- an answer that is that of `checked` tells what it should
+pub tells : (r : Result Sheet Refusal) (bs : List ℕ) → r ≡ checked bs → Tells r bs
+tells r bs h = tells-of r bs (sym h)

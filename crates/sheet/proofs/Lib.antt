@@ -1,2 +1,3 @@
 mod Scans
 mod Ways
+mod Checking

@@ -138,7 +138,7 @@ module _ {P T : Type 0} (least most : ℕ) (place : Option P → Step P) (tail :
 -- ## A refusal that is passed on
 
 pub stops-map : {A B : Type 0} (g : Got A) (h : Got B) (f : Fault) → ((c m : ℕ) → g ≡ stop c m → h ≡ stop c m) → Stops g f → Stops h f
-stops-map g h f to s = record { with = to (refusal f .number) (refusal f .place) (s .with); flat = s .flat }
+stops-map g h f to s = record { with = to (refusal f .number) (refusal f .place) (s .with); flat = s .flat; fed = s .fed }
 
 pub reads-err : {X A : Type 0} (value : X → A) (s : Step A) (old new : Reader) (r : Result X Fault) (x f : Fault) → r ≡ Err x → x ≡ f → Stops (s (left old) (old .line)) f → Reads value s old r new
 reads-err {X} value s old new r x f p q h = subst (λ (r : Result X Fault). Reads value s old r new) (sym (p ∙ ap (λ e. Err e) q)) h

@@ -1,10 +1,12 @@
 -- What the code's reader does, in the words of the form. Assumes nothing.
 use mathlib.Core.Path.{_≡_}
-use mathlib.Core.Bool.{cond}
+use mathlib.Core.Bool.{false, cond}
 use mathlib.Core.List.{List, []}
 use Prim.Native.Nat.{ℕ, _+_, _<_, _≤_}
 use denote.Ref.{RefT}
+use lib.Dec.{eqb}
 use lib.ListN.{length}
+use Rattle.std.specs.Orderings.{When}
 use Rattle.std.specs.Of.Vec.{vec-cap, vec-items}
 use Rattle.std.specs.declared.option.Option.{Option}
 use Rattle.std.specs.declared.option.Option.the-variants.{None, Some}
@@ -13,9 +15,11 @@ use Rattle.std.specs.declared.result.Result.the-variants.{Ok, Err}
 use Rattle.fault.specs.declared.Fault.{Fault}
 use Rattle.fault.specs.Refusals.{refusal}
 use Rattle.entry.specs.Entries.{Entry, Known, Range}
-use Rattle.form.specs.Reading.{Got, got, stop, Step, _>>=_, done, cut, Tail}
+use Rattle.form.specs.Reading.{Got, got, stop, Step, _>>=_, done, cut, Tail, checked}
+use Rattle.form.specs.Theorem.{Headed}
 use Rattle.sheet.specs.declared.reader.Reader.{Reader}
 use Rattle.sheet.specs.declared.values.Body.{Body}
+use Rattle.sheet.specs.Code.{HeldSheet, sheetOf}
 use Rattle.sheet.specs.declared.reader.RawEntry.{RawEntry}
 use Rattle.sheet.specs.declared.reader.RawEntry.the-variants.{Known as RawKnown, Range as RawRange}
 
@@ -32,10 +36,11 @@ abbrev pub Cut : Option (RefT (List ℕ)) → ℕ → Reader → Reader → Type
 Cut (Some w) c old new = (cut c (left old) ≡ Some (w .now, left new)) × (new .line ≡ old .line) × (length (left new) < length (left old))
 Cut None c old new = (cut c (left old) ≡ None) × (new .line ≡ old .line)
 
--- the fault is the refusal that a step stopped with
+-- the fault is the refusal that a step stopped with, and no want of memory
 pub record Stops {A : Type 0} (g : Got A) (f : Fault) : Type 0 where
   pub with : g ≡ stop (refusal f .number) (refusal f .place)
   pub flat : refusal f .depth ≡ 0
+  pub fed : eqb (refusal f .number) 0 ≡ false
 
 -- r is what the step s gets at the reader, which then stands after it; or it is the step's refusal
 abbrev pub Reads : {X A : Type 0} → (X → A) → Step A → Reader → Result X Fault → Reader → Type 0
@@ -64,3 +69,8 @@ pub record Empty {P T : Type 0} (most : ℕ) (b : Body P T) : Type 0 where
   pub places-room : most ≤ vec-cap (b .places)
   pub elements-room : most ≤ vec-cap (b .elements)
   pub recorded-room : most ≤ vec-cap (b .recorded)
+
+-- the answer to the bytes bs: the sheet or the refusal, or no memory, which is only wanted after a first line that has its form
+abbrev pub Checks : Result HeldSheet Fault → List ℕ → Type 0
+Checks (Ok s) bs = checked bs ≡ Ok (sheetOf s)
+Checks (Err f) bs = When (eqb (refusal f .number) 0) (Headed bs) (checked bs ≡ Err (refusal f))

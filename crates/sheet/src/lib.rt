@@ -1,12 +1,55 @@
 // Sheets: read from bytes, and written as bytes.
+ghost use mathlib.Core.Path.{_≡_};
+ghost use mathlib.Core.Bool.{true, false};
+ghost use Rattle.fault.specs.Refusals.{starved, told};
+ghost use Rattle.form.specs.Reading.{checked};
+ghost use Rattle.form.specs.Theorem.{Headed, Tells};
+ghost use Rattle.sheet.specs.Code.{sheetOf};
+ghost use Rattle.sheet.specs.Readers.{Checks};
+
 mod fields;
 mod lines;
 mod reader;
 mod sections;
 mod values;
 
+use crate::reader::Reader;
+use crate::sections::by_kind;
+use fault::Fault;
+use std::alloc::Global;
 pub use values::Body;
 pub use values::ByKind;
 pub use values::ElementLine;
 pub use values::Lot;
 pub use values::Sheet;
+
+// The most bytes of a sheet.
+const MOST_BYTES: usize = 65_536;
+
+// The sheet, with nothing behind it.
+fn read_whole<'a>(heap: Global, bytes: &'a [u8]) -> Result<Sheet<'a>, Fault>
+    ensures { λ r. ⌜ Checks r (now (bytes .entry)) ⌝ }
+{
+    if bytes.len() > MOST_BYTES {
+        return Err(Fault::SheetTooLong);
+    }
+    let mut reader = Reader {
+        rest: bytes,
+        line: 1,
+    };
+    let (kind, allowance) = reader.heading()?;
+    let sheet = by_kind(heap, &mut reader, kind, allowance)?;
+    if !reader.rest.is_empty() {
+        return Err(Fault::Surplus { line: reader.line });
+    }
+    Ok(sheet)
+}
+
+// The sheet that the bytes are, or why they are none.
+pub fn read<'a>(heap: Global, bytes: &'a [u8]) -> Result<Sheet<'a>, Fault>
+    ensures reads { λ r. ⌜ (starved r ≡ false → told sheetOf r ≡ checked (now (bytes .entry))) ⌝ }
+    ensures tells { λ r. ⌜ (starved r ≡ false → Tells (told sheetOf r) (now (bytes .entry))) ⌝ }
+    ensures memory { λ r. ⌜ (starved r ≡ true → Headed (now (bytes .entry))) ⌝ }
+{
+    read_whole(heap, bytes)
+}
