@@ -1,3 +1,4 @@
 mod Scans
 mod Ways
 mod Checking
+mod Inscribing

@@ -165,8 +165,8 @@ word-length (suc n) (b ∷ bs) h =
 -- the letters are the word that they write, or none
 pub word-is : (n : ℕ) (w : List ℕ) → word n w ≡ cond (isWord n w) (Some (ones w)) None
 word-is n w = elim (cases-bool (eqb (length w) n)) [
-    | inl h ↦
+  | inl h ↦
       let l : length w ≡ n = eqb-true (length w) n h in
       ap (λ n. word n w) (sym l) ∙ (word-by w ∙ ap (λ t. cond (t && each isBit w) (Some (ones w)) None) (sym h))
-    | inr h ↦ word-length n w (eqb-false (length w) n h) ∙ ap (λ t. cond (t && each isBit w) (Some (ones w)) None) (sym h)
-  ]
+  | inr h ↦ word-length n w (eqb-false (length w) n h) ∙ ap (λ t. cond (t && each isBit w) (Some (ones w)) None) (sym h)
+]

@@ -9,7 +9,7 @@ use lib.ListN.{length}
 use Rattle.std.specs.Of.Vec.{vec-items}
 use Rattle.std.specs.declared.option.Option.{Option}
 use Rattle.std.specs.declared.option.Option.the-variants.{None, Some}
-use Rattle.form.specs.Sheets.{Name, Element, Recorded, Body, Sheet, routes, lots, words, each}
+use Rattle.form.specs.Sheets.{Name, Element, Recorded, Body, Sheet, routes, lots, words, bitLetter, each}
 use Rattle.element.specs.declared.Line.{Line}
 use Rattle.entry.specs.Held.{held}
 use Rattle.kinds.specs.declared.Route.{Route}
@@ -40,6 +40,11 @@ isWord n w = eqb (length w) n && each isBit w
 abbrev pub ones : List ℕ → List Bool
 ones w = map (λ b. eqb b 49) w
 
+-- the letter that stands for a letter of a word
+abbrev pub bitOf : ℕ → ℕ
+bitOf b = bitLetter (eqb b 49)
+
+-- a word that is a part of the sheet
 abbrev pub wordOf : RefT (List ℕ) → List Bool
 wordOf w = ones (w .now)
 

@@ -10,8 +10,9 @@ ghost use Rattle.std.specs.declared.option.Option.the-variants.{None, Some};
 ghost use Rattle.std.specs.declared.result.Result.the-variants.{Err, Ok};
 ghost use Rattle.entry.specs.Held.{held};
 ghost use Rattle.fault.specs.Refusals.{refused, told};
-ghost use Rattle.form.specs.Sheets.{Element as AnElement};
+ghost use Rattle.form.specs.Sheets.{Element as AnElement, elementText, ended, lotNumberText, lotText, recordedText, routeText, wordText};
 ghost use Rattle.form.specs.Reading.{Step, Tail as ATail, elementLine, lotLine, lotTail, lowBelowHigh, nameLine, recordedLine, rises, routeTail, wordTail};
+ghost use Rattle.writer.specs.Written.{Wrote};
 ghost use Rattle.sheet.specs.Code.{bytes, elementOf, itself, lotOf, recordOf, routeOf, valued, wordOf};
 ghost use Rattle.sheet.specs.Readers.{Reads, beforeOf, rawOf, room, seen};
 use crate::fields::Amount;
@@ -24,12 +25,18 @@ use crate::reader::RawEntry;
 use crate::reader::Reader;
 use crate::values::ElementLine;
 use crate::values::Lot;
+use crate::writing::put_entry;
+use crate::writing::put_field;
+use crate::writing::put_number;
+use crate::writing::put_price;
+use crate::writing::put_word;
 use element::Element;
 use element::Line;
 use element::Place;
 use entry::Entry;
 use fault::Fault;
 use kinds::Route;
+use writer::Writer;
 
 // What a line of a section holds, and how it is read, where `before` is the line before it.
 pub trait Row<'a> {
@@ -41,10 +48,19 @@ pub trait Row<'a> {
 
     ghost step: { Self → Maybe model → Step model };
 
-    fn read(&self, reader: &mut Reader<'a>, before: Option<&Self::Item>) -> Result<Self::Item, Fault>
+    ghost text: { model → List ℕ };
+
+    fn read(
+        &self,
+        reader: &mut Reader<'a>,
+        before: Option<&Self::Item>,
+    ) -> Result<Self::Item, Fault>
         requires { ⌜ room (now reader) < 2 ^ 32 ⌝ }
         ensures read { λ r. ⌜ Reads value (step (now (self .entry)) (beforeOf value (before .entry))) (now (reader .entry)) r (now (reader .exit)) ⌝ }
         ensures room { λ r. ⌜ made r (λ _. room (now (reader .exit)) ≤ room (now (reader .entry))) ⌝ };
+
+    fn write(&self, writer: &mut Writer, item: &Self::Item)
+        ensures { λ _. ⌜ Wrote (now (writer .entry)) (text (value (now (item .entry)))) (now (writer .exit)) ⌝ };
 }
 
 // Places and lamps: a name each.
@@ -60,8 +76,14 @@ pub impl<'a> Row<'a> for NameRow as NameRowRow {
 
     ghost step = { λ _ _. nameLine };
 
+    ghost text = { ended };
+
     fn read(&self, reader: &mut Reader<'a>, _before: Option<&&'a [u8]>) -> Result<&'a [u8], Fault> {
         reader.name_line()
+    }
+
+    fn write(&self, writer: &mut Writer, item: &&'a [u8]) {
+        put_field(writer, item, b'\n');
     }
 }
 
@@ -78,8 +100,15 @@ pub impl<'a> Row<'a> for LotRow as LotRowRow {
 
     ghost step = { λ _ _. lotLine };
 
+    ghost text = { lotText };
+
     fn read(&self, reader: &mut Reader<'a>, _before: Option<&Lot<'a>>) -> Result<Lot<'a>, Fault> {
         reader.lot_line()
+    }
+
+    fn write(&self, writer: &mut Writer, item: &Lot<'a>) {
+        put_field(writer, item.name, b' ');
+        put_number(writer, item.cap, b'\n');
     }
 }
 
@@ -108,6 +137,8 @@ pub impl<'a> Row<'a> for RecordRow as RecordRowRow {
 
     ghost step = { λ f before. recordedLine (f .elements) before };
 
+    ghost text = { recordedText };
+
     fn read(&self, reader: &mut Reader<'a>, before: Option<&Line>) -> Result<Line, Fault> {
         let element = reader.field(&Numeral, b' ')?;
         let price = reader.field(&Amount, b'\n')?;
@@ -120,6 +151,11 @@ pub impl<'a> Row<'a> for RecordRow as RecordRowRow {
         reader.line += 1;
         let element = element as Element;
         Ok(Line { element, price })
+    }
+
+    fn write(&self, writer: &mut Writer, item: &Line) {
+        put_number(writer, u32::from(item.element), b' ');
+        put_price(writer, item.price, b'\n');
     }
 }
 
@@ -144,17 +180,22 @@ pub trait Tail<'a>: Sized + Drop {
 
     ghost value: { Self·Value → model };
 
-    ghost tail: { ATail model };
+    ghost form: { ATail model };
 
     ghost places: { Self → ℕ };
+
+    ghost text: { model → List ℕ };
 
     fn over(lines: Place) -> Self
         ensures { λ r. ⌜ places r ≡ lines ⌝ };
 
     // What the fields name, or none where they name nothing.
     fn read(&self, reader: &mut Reader<'a>) -> Result<Option<Self::Value>, Fault>
-        ensures read { λ r. ⌜ Reads (valued value) (seen tail (places (now (self .entry)))) (now (reader .entry)) r (now (reader .exit)) ⌝ }
+        ensures read { λ r. ⌜ Reads (valued value) (seen form (places (now (self .entry)))) (now (reader .entry)) r (now (reader .exit)) ⌝ }
         ensures room { λ r. ⌜ made r (λ _. room (now (reader .exit)) < room (now (reader .entry))) ⌝ };
+
+    fn write(writer: &mut Writer, tail: &Self::Value)
+        ensures { λ _. ⌜ Wrote (now (writer .entry)) (text (value (now (tail .entry)))) (now (writer .exit)) ⌝ };
 }
 
 // Routes: two places.
@@ -185,9 +226,11 @@ pub impl<'a> Tail<'a> for RouteTail as RouteTailTail {
 
     ghost value = { routeOf };
 
-    ghost tail = { routeTail };
+    ghost form = { routeTail };
 
     ghost places = { λ t. t .places };
+
+    ghost text = { routeText };
 
     fn over(lines: Place) -> RouteTail {
         RouteTail { places: lines }
@@ -197,6 +240,11 @@ pub impl<'a> Tail<'a> for RouteTail as RouteTailTail {
         let from = reader.field(&Numeral, b' ')?;
         let to = reader.field(&Numeral, b'\n')?;
         Ok(self.named(from, to))
+    }
+
+    fn write(writer: &mut Writer, tail: &Route) {
+        put_number(writer, u32::from(tail.from), b' ');
+        put_number(writer, u32::from(tail.to), b'\n');
     }
 }
 
@@ -225,9 +273,11 @@ pub impl<'a> Tail<'a> for LotTail as LotTailTail {
 
     ghost value = { itself };
 
-    ghost tail = { lotTail };
+    ghost form = { lotTail };
 
     ghost places = { λ t. t .lots };
+
+    ghost text = { lotNumberText };
 
     fn over(lines: Place) -> LotTail {
         LotTail { lots: lines }
@@ -236,6 +286,10 @@ pub impl<'a> Tail<'a> for LotTail as LotTailTail {
     fn read(&self, reader: &mut Reader<'a>) -> Result<Option<Place>, Fault> {
         let lot = reader.field(&Numeral, b'\n')?;
         Ok(self.named(lot))
+    }
+
+    fn write(writer: &mut Writer, tail: &Place) {
+        put_number(writer, u32::from(*tail), b'\n');
     }
 }
 
@@ -252,9 +306,11 @@ pub impl<'a> Tail<'a> for WordTail as WordTailTail {
 
     ghost value = { wordOf };
 
-    ghost tail = { wordTail };
+    ghost form = { wordTail };
 
     ghost places = { λ t. t .lamps };
+
+    ghost text = { wordText };
 
     fn over(lines: Place) -> WordTail
         ensures { λ r. ⌜ r .lamps ≡ lines ⌝ }
@@ -266,6 +322,10 @@ pub impl<'a> Tail<'a> for WordTail as WordTailTail {
         let bits = Bits { lamps: self.lamps };
         let word = reader.field(&bits, b'\n')?;
         Ok(Some(word))
+    }
+
+    fn write(writer: &mut Writer, tail: &&'a [u8]) {
+        put_word(writer, tail);
     }
 }
 
@@ -282,7 +342,9 @@ pub impl<'a, T: Tail<'a>> Row<'a> for ElementRow<T> as ElementRowRow {
 
     ghost value = { elementOf (T·Tail .value) };
 
-    ghost step = { λ f _. elementLine (T·Tail .tail) (T·Tail .places (f .tail)) };
+    ghost step = { λ f _. elementLine (T·Tail .form) (T·Tail .places (f .tail)) };
+
+    ghost text = { elementText (T·Tail .text) };
 
     fn read(
         &self,
@@ -298,5 +360,11 @@ pub impl<'a, T: Tail<'a>> Row<'a> for ElementRow<T> as ElementRowRow {
         };
         reader.line += 1;
         Ok(ElementLine { entry, tail })
+    }
+
+    fn write(&self, writer: &mut Writer, item: &ElementLine<T::Value>) {
+        let entry = item.entry;
+        put_entry(writer, &entry);
+        T::write(writer, &item.tail);
     }
 }

@@ -7,8 +7,9 @@ ghost use Rattle.std.specs.Of.Vec.{vec-cap, vec-items, vec-len};
 ghost use Rattle.std.specs.Vec.{made};
 ghost use Rattle.std.specs.declared.option.Option.the-variants.{None};
 ghost use Rattle.fault.specs.Refusals.{starved};
-ghost use Rattle.form.specs.Sheets.{most-lines};
+ghost use Rattle.form.specs.Sheets.{bodyText, most-lines, section as aSection, written};
 ghost use Rattle.form.specs.Reading.{body as aBody, bodyOf as sectionsOf, counted, repeated};
+ghost use Rattle.writer.specs.Written.{Wrote};
 ghost use Rattle.sheet.specs.Code.{bodyOf, sheetOf};
 ghost use Rattle.sheet.specs.Readers.{Empty, Reads, room};
 use crate::lines::ElementRow;
@@ -37,6 +38,7 @@ use fault::Fault;
 use form::Kind;
 use std::alloc::AllocError;
 use std::alloc::Global;
+use writer::Writer;
 
 // The most lines of a section.
 const MOST: Place = 255;
@@ -116,7 +118,7 @@ fn sections<'a, P: Row<'a>, T: Tail<'a>>(
     requires line { ⌜ room (now reader) < 2 ^ 32 ⌝ }
     requires empty { ⌜ Empty most-lines empty ⌝ }
     requires most { ⌜ most ≤ most-lines ⌝ }
-    ensures { λ r. ⌜ Reads (bodyOf (P·Row .value) (T·Tail .value)) (aBody least most (P·Row .step (now (form .entry))) (T·Tail .tail) (empty .allowance)) (now (reader .entry)) r (now (reader .exit)) ⌝ }
+    ensures { λ r. ⌜ Reads (bodyOf (P·Row .value) (T·Tail .value)) (aBody least most (P·Row .step (now (form .entry))) (T·Tail .form) (empty .allowance)) (now (reader .entry)) r (now (reader .exit)) ⌝ }
 {
     let Body {
         allowance,
@@ -173,5 +175,52 @@ pub fn by_kind<'a>(
             }
             Err(_) => Err(Fault::NoMemory),
         },
+    }
+}
+
+// A section: its count, and its lines.
+fn write_section<'a, F: Row<'a>>(writer: &mut Writer, form: &F, items: &[F::Item])
+    ensures { λ _. ⌜ Wrote (now (writer .entry)) (aSection (F·Row .text) (map (F·Row .value) (now (items .entry)))) (now (writer .exit)) ⌝ }
+{
+    writer.number(items.len() as u64);
+    writer.byte(b'\n');
+    for item in items {
+        form.write(writer, item);
+    }
+}
+
+// The allowance and the three sections.
+fn write_body<'a, P: Row<'a>, T: Tail<'a>>(
+    writer: &mut Writer,
+    form: &P,
+    body: &Body<P::Item, T::Value>,
+)
+    ensures { λ _. ⌜ Wrote (now (writer .entry)) (bodyText (P·Row .text) (T·Tail .text) (bodyOf (P·Row .value) (T·Tail .value) (now (body .entry)))) (now (writer .exit)) ⌝ }
+{
+    writer.number(u64::from(body.allowance));
+    writer.byte(b'\n');
+    write_section(writer, form, &body.places);
+    let row: ElementRow<T> = ElementRow { tail: T::over(0) };
+    write_section(writer, &row, &body.elements);
+    write_section(writer, &RecordRow { elements: 0 }, &body.recorded);
+}
+
+// A whole sheet.
+pub fn write_sheet(writer: &mut Writer, sheet: &Sheet)
+    ensures { λ _. ⌜ Wrote (now (writer .entry)) (written (sheetOf (now (sheet .entry)))) (now (writer .exit)) ⌝ }
+{
+    match sheet {
+        ByKind::Routes(body) => {
+            writer.put(b"routes ");
+            write_body::<NameRow, RouteTail>(writer, &NameRow, body);
+        }
+        ByKind::Lots(body) => {
+            writer.put(b"lots ");
+            write_body::<LotRow, LotTail>(writer, &LotRow, body);
+        }
+        ByKind::Words(body) => {
+            writer.put(b"words ");
+            write_body::<NameRow, WordTail>(writer, &NameRow, body);
+        }
     }
 }

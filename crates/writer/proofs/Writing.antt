@@ -1,6 +1,6 @@
 -- One text after another. Assumes nothing.
 use mathlib.Core.Path.{_≡_, refl, sym, _∙_, ap, subst}
-use mathlib.Core.Bool.{Bool, true, false}
+use mathlib.Core.Bool.{Bool, true, false, cond}
 use mathlib.Core.List.{List, [], _∷_, _++_}
 use mathlib.Core.Logic.{inl, inr}
 use Prim.Native.Nat.{ℕ, _+_, _/_, _%_, _^_, _<_, _≤_}
@@ -8,11 +8,17 @@ use native.Mathlib.Omega.{arith}
 use lib.ListN.{length, length-append}
 use Rattle.std.specs.Of.Vec.{vec-cap, vec-items, vec-len}
 use Rattle.std.specs.Written.{decimal}
+use Rattle.std.specs.declared.alloc.Global.{Global}
+use Rattle.std.specs.declared.result.Result.{Result}
+use Rattle.std.specs.declared.result.Result.the-variants.{Ok, Err}
+use Rattle.std.specs.declared.vec.Vec.{Vec}
 use Rattle.std.proofs.shelf.Decimals.{decimal-digit, decimal-step}
 use Rattle.std.proofs.shelf.Lists.{append-assoc, append-nil}
-use Rattle.std.proofs.shelf.Tests.{cases-bool, false≢true}
+use Rattle.std.proofs.shelf.Tests.{cases-bool, eq-eqb, false≢true}
+use Rattle.fault.specs.declared.Fault.{Fault}
+use Rattle.fault.specs.Refusals.{Refusal, refusal, refused, starved, told}
 use Rattle.writer.specs.declared.values.Writer.{Writer}
-use Rattle.writer.specs.Written.{Wrote}
+use Rattle.writer.specs.Written.{Blank, Wrote, finished}
 
 -- nothing is written
 pub wrote-none : (w : Writer) → Wrote w [] w
@@ -56,3 +62,25 @@ pub number-last : (old mid new : Writer) (n : ℕ) → n < 10 → mid ≡ old �
 number-last old mid new n low e b =
     let r : n % 10 ≡ n = omega arith in
     wrote-as (ap (λ d. (48 + d) ∷ []) r ∙ sym (decimal-digit n low)) (subst (λ (w : Writer). Wrote w ((48 + n % 10) ∷ []) new) e b)
+
+-- ## The whole text
+
+no-memory : {X A : Type 0} (value : X → A) (r : Result X Fault) → told value r ≡ Err (refused 0 0 0) → starved r ≡ true
+no-memory value (Ok x) e = let z : _≡_ {A = ℕ} 0 1 = cc in absurd (omega arith)
+no-memory value (Err f) e =
+    let n : refusal f ≡ refused 0 0 0 = cc in
+    eq-eqb (refusal f .number) 0 (ap (λ (x : Refusal). x .number) n)
+
+-- a fault that is a want of memory says nothing of what was wanted
+pub starved-err : {X A : Type 0} (value : X → A) (want : Result A Refusal) (r : Result X Fault) (x f : Fault) → r ≡ Err x → x ≡ f → refusal f ≡ refused 0 0 0 → starved r ≡ false → told value r ≡ want
+starved-err {X} {A} value want r x f p q n s =
+    let e : told value r ≡ Err (refused 0 0 0) = ap (told value) p ∙ (ap (λ f. Err (refusal f)) q ∙ ap (λ (v : Refusal). Err v) n) in
+    absurd (false≢true (sym s ∙ no-memory value r e))
+
+-- what is finished is what was written
+pub written-out : {old new : Writer} {room : ℕ} {t : List ℕ} (r : Result (Vec ℕ Global) Fault) → Blank room old → Wrote old t new → told vec-items r ≡ finished new → starved r ≡ false → told vec-items r ≡ Ok t
+written-out {old} {new} {room} {t} r b w e s = by (new .full) refl e
+  where
+    by : (full : Bool) → new .full ≡ full → told vec-items r ≡ cond full (Err (refused 0 0 0)) (Ok (vec-items (new .bytes))) → told vec-items r ≡ Ok t
+    by true h e = absurd (false≢true (sym s ∙ no-memory vec-items r e))
+    by false h e = e ∙ ap (λ (x : List ℕ). Ok x) (w .kept h .1 ∙ ap (λ x. x ++ t) (b .bytes))

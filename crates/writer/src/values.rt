@@ -1,12 +1,10 @@
 ghost use mathlib.Core.Path.{_≡_};
-ghost use mathlib.Core.Bool.{true, false};
-ghost use mathlib.Core.List.{[], _∷_, _++_};
-ghost use Prim.Native.Nat.{_≤_};
-ghost use Rattle.std.specs.Of.Vec.{vec-cap, vec-items};
-ghost use Rattle.std.specs.Vec.{made};
+ghost use mathlib.Core.List.{[], _∷_};
+ghost use Rattle.std.specs.Of.Vec.{vec-items};
+ghost use Rattle.std.specs.Vec.{made, refused as failing};
 ghost use Rattle.std.specs.Written.{decimal};
-ghost use Rattle.fault.specs.Refusals.{refused, starved, told};
-ghost use Rattle.writer.specs.Written.{Wrote, finished};
+ghost use Rattle.fault.specs.Refusals.{refusal, refused, told};
+ghost use Rattle.writer.specs.Written.{Blank, Wrote, finished};
 use fault::Fault;
 use std::alloc::Global;
 
@@ -20,7 +18,8 @@ pub struct Writer {
 impl Writer {
     // An empty text, with room for so many bytes.
     pub fn with_room(heap: Global, room: usize) -> Result<Writer, Fault>
-        ensures made { λ r. ⌜ made r (λ w. (vec-items (w .bytes) ≡ []) × (room ≤ vec-cap (w .bytes)) × (w .full ≡ false)) ⌝ }
+        ensures made { λ r. ⌜ made r (λ w. Blank room w) ⌝ }
+        ensures refused { λ r. ⌜ failing r (λ f. refusal f ≡ refused 0 0 0) ⌝ }
     {
         match Vec::with_capacity(heap, room) {
             Ok(bytes) => Ok(Writer { bytes, full: false }),

@@ -19,10 +19,10 @@ pub returns-in-Break-elements : need.returns-in-Break-elements
 returns-in-Break-elements g c =
     let p = err-from-errBy (c .from-residual-in-Break-elements .result) (c .from-residual-in-Break-elements .ensures .1) in
     let place = g .P·Row .step (c .args .form .now) in
-    reads-err (bodyOf (g .P·Row .value) (g .T·Tail .value)) (body (c .args .least) (c .args .most) place (g .T·Tail .tail) (c .args .empty .allowance)) (c .args .reader .now) (c .section-2 .last .reader)
+    reads-err (bodyOf (g .P·Row .value) (g .T·Tail .value)) (body (c .args .least) (c .args .most) place (g .T·Tail .form) (c .args .empty .allowance)) (c .args .reader .now) (c .section-2 .last .reader)
     (c .from-residual-in-Break-elements .result) (p .0) (c .in-Break-elements .field-0 .0) (p .1) (p .2)
     (stops-map _ _ (c .in-Break-elements .field-0 .0)
-    (body-elements (c .args .least) (c .args .most) place (g .T·Tail .tail) (c .args .empty .allowance) (left (c .args .reader .now)) (c .args .reader .now .line) (map (g .P·Row .value) (vec-items (c .in-Continue-places .places))) (left (c .section .last .reader)) (c .section .last .reader .line) (g .T·Tail .places (c .over .result))
+    (body-elements (c .args .least) (c .args .most) place (g .T·Tail .form) (c .args .empty .allowance) (left (c .args .reader .now)) (c .args .reader .now .line) (map (g .P·Row .value) (vec-items (c .in-Continue-places .places))) (left (c .section .last .reader)) (c .section .last .reader .line) (g .T·Tail .places (c .over .result))
     (c .in-Continue-places .ensures tt .read)
     (c .over .ensures ∙ (c .len .ensures ∙ len-values (g .P·Row .value) (c .in-Continue-places .places))))
     (c .in-Break-elements .ensures tt .read))
@@ -31,10 +31,10 @@ pub returns-in-Break-recorded : need.returns-in-Break-recorded
 returns-in-Break-recorded g c =
     let p = err-from-errBy (c .from-residual-in-Break-recorded .result) (c .from-residual-in-Break-recorded .ensures .1) in
     let place = g .P·Row .step (c .args .form .now) in
-    reads-err (bodyOf (g .P·Row .value) (g .T·Tail .value)) (body (c .args .least) (c .args .most) place (g .T·Tail .tail) (c .args .empty .allowance)) (c .args .reader .now) (c .section-3 .last .reader)
+    reads-err (bodyOf (g .P·Row .value) (g .T·Tail .value)) (body (c .args .least) (c .args .most) place (g .T·Tail .form) (c .args .empty .allowance)) (c .args .reader .now) (c .section-3 .last .reader)
     (c .from-residual-in-Break-recorded .result) (p .0) (c .in-Break-recorded .field-0 .0) (p .1) (p .2)
     (stops-map _ _ (c .in-Break-recorded .field-0 .0)
-    (body-records (c .args .least) (c .args .most) place (g .T·Tail .tail) (c .args .empty .allowance) (left (c .args .reader .now)) (c .args .reader .now .line) (map (g .P·Row .value) (vec-items (c .in-Continue-places .places))) (left (c .section .last .reader)) (c .section .last .reader .line) (g .T·Tail .places (c .over .result))
+    (body-records (c .args .least) (c .args .most) place (g .T·Tail .form) (c .args .empty .allowance) (left (c .args .reader .now)) (c .args .reader .now .line) (map (g .P·Row .value) (vec-items (c .in-Continue-places .places))) (left (c .section .last .reader)) (c .section .last .reader .line) (g .T·Tail .places (c .over .result))
     (c .in-Continue-places .ensures tt .read)
     (c .over .ensures ∙ (c .len .ensures ∙ len-values (g .P·Row .value) (c .in-Continue-places .places)))
     (map (elementOf (g .T·Tail .value)) (vec-items (c .in-Continue-elements .elements))) (left (c .section-2 .last .reader)) (c .section-2 .last .reader .line) (c .len-2 .result)
@@ -44,7 +44,7 @@ returns-in-Break-recorded g c =
 
 pub returns : need.returns
 returns g c =
-    body-all (c .args .least) (c .args .most) (g .P·Row .step (c .args .form .now)) (g .T·Tail .tail) (c .args .empty .allowance) (left (c .args .reader .now)) (c .args .reader .now .line) (map (g .P·Row .value) (vec-items (c .in-Continue-places .places))) (left (c .section .last .reader)) (c .section .last .reader .line) (g .T·Tail .places (c .over .result))
+    body-all (c .args .least) (c .args .most) (g .P·Row .step (c .args .form .now)) (g .T·Tail .form) (c .args .empty .allowance) (left (c .args .reader .now)) (c .args .reader .now .line) (map (g .P·Row .value) (vec-items (c .in-Continue-places .places))) (left (c .section .last .reader)) (c .section .last .reader .line) (g .T·Tail .places (c .over .result))
     (c .in-Continue-places .ensures tt .read)
     (c .over .ensures ∙ (c .len .ensures ∙ len-values (g .P·Row .value) (c .in-Continue-places .places)))
     (map (elementOf (g .T·Tail .value)) (vec-items (c .in-Continue-elements .elements))) (left (c .section-2 .last .reader)) (c .section-2 .last .reader .line) (c .len-2 .result)

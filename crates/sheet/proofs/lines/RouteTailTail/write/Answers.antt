@@ -1,0 +1,10 @@
+use mathlib.Core.Path.{ap}
+use mathlib.Core.List.{[], _∷_, _++_}
+use Rattle.std.specs.Written.{decimal}
+use Rattle.writer.proofs.Writing.{wrote-as, wrote-both}
+use Rattle.sheet.proofs.lines.RouteTailTail.write.Needs as need
+
+pub returns : need.returns
+returns c =
+    wrote-both (wrote-as (ap (λ n. decimal n ++ (32 ∷ [])) (c .from .ensures)) (c .put-number .ensures))
+    (wrote-as (ap (λ n. decimal n ++ (10 ∷ [])) (c .from-2 .ensures)) (c .put-number-2 .ensures))
