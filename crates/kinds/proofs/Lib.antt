@@ -1,0 +1,11 @@
+pub mod Odd
+pub mod Below
+pub mod Parts
+pub mod Kernel
+pub mod Dependencies
+pub mod Binary
+pub mod BinaryCircuits
+pub mod Routes
+pub mod Words
+pub mod Lots
+pub mod LotCircuits

@@ -1,0 +1,12 @@
+pub mod Members
+pub mod Counts
+pub mod Layers
+pub mod Growth
+pub mod Greedy
+pub mod Thresholds
+pub mod Spans
+pub mod Circuits
+pub mod Free
+pub mod Marks
+pub mod Replies
+pub mod Asked

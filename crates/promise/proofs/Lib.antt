@@ -1,0 +1,16 @@
+pub mod Bests
+pub mod Orders
+pub mod Walking
+pub mod Fitting
+pub mod Rivals
+pub mod Needed
+pub mod Pricing
+pub mod Ledgers
+pub mod Worked
+pub mod Supplies
+pub mod Stepping
+pub mod Calls
+pub mod Reports
+pub mod Runs
+pub mod Repeats
+pub mod Enough

@@ -1,0 +1,7 @@
+pub mod Weighings
+pub mod Walks
+pub mod Surveys
+pub mod Calls
+pub mod Claims
+pub mod Runs
+pub mod Cases

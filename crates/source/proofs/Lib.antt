@@ -1,0 +1,5 @@
+pub mod Blanking
+pub mod Lastings
+pub mod Lines
+pub mod Payments
+pub mod Verdicts

@@ -1,0 +1,4 @@
+pub mod Calls
+pub mod Records
+pub mod Soundness
+pub mod Supplies
