@@ -4,17 +4,13 @@
 --     blamed σ o n e    the depth from which its refusal for e comes, o being those of σ
 use mathlib.Core.Bool.{Bool, cond, not, _&&_, _||_}
 use mathlib.Core.List.{List}
-use Prim.Native.Nat.{ℕ, _+_, _≤_, min}
+use Prim.Native.Nat.{ℕ, _≤_, min}
 use lib.Dec.{eqb}
 use Rattle.std.specs.Options.{isSome}
 use Rattle.std.specs.declared.option.Option.{Option}
 use Rattle.std.specs.declared.option.Option.the-variants.{Some, None}
 use Rattle.source.specs.Calls.{Call, payments}
-use Rattle.source.specs.Supplies.{Supply, deepest}
-
--- the depth of a layer over the depth d: one more, and never above the largest
-abbrev pub deeper : ℕ → ℕ
-deeper d = min (d + 1) deepest
+use Rattle.source.specs.Supplies.{Supply, deeper}
 
 -- the first price, or else the second
 abbrev pub or-else : Option ℕ → Option ℕ → Option ℕ

@@ -7,8 +7,8 @@ use Rattle.std.specs.Options.{isSome}
 use Rattle.std.specs.declared.option.Option.{Option}
 use Rattle.std.specs.declared.option.Option.the-variants.{Some, None}
 use Rattle.std.proofs.shelf.Tests.{cond-both}
-use Rattle.source.specs.Supplies.{Supply, Sound, deepest}
-use Rattle.layers.specs.Layers.{deeper, or-else, remembering, limited, closed, blamed}
+use Rattle.source.specs.Supplies.{Supply, Sound, deepest, deeper}
+use Rattle.layers.specs.Layers.{or-else, remembering, limited, closed, blamed}
 
 remembered-priced : (r o : Option ℕ) (f : Bool) → (f ≡ true → isSome o ≡ true) → (isSome r || f) ≡ true → isSome (or-else r o) ≡ true
 remembered-priced (Some p) o f priced h = refl

@@ -98,7 +98,7 @@ module _ (m : Meaning) (laws : Laws m) (F : ℕ → Entry) where
   pub did-holds : (N : List Line) (k : ℕ) (s : State) (c : Call) → Holds m F N k s → Holds m F (N ++ noted m s c) (k + call-firsts m s c) (did m s c)
   did-holds N k s (step-with σ) h = no-notes N _ _ (step-holds N k s h σ)
   did-holds N k s (run-with σ) h =
-      no-notes N _ _ (steps-keep m (λ τ. Unit {0}) (λ t τ q. tt) (Holds m F N) (λ j t τ q i. step-holds N j t i τ) (m .size) k s σ tt h)
+      no-notes N _ _ (steps-keep m (λ τ. Unit {0}) (λ t τ q. tt) (Holds m F N) (λ j t τ q i. step-holds N j t i τ) (suc (m .size)) k s σ tt h)
   did-holds N k s (note-of e p) h = as-before (Holds m F (N ++ noted m s (note-of e p))) k (note m s e p) (note-holds N k s h e p)
   did-holds N k s (report-into marks) h = no-notes N _ _ (as-before (Holds m F N) k s h)
 

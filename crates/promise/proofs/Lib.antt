@@ -9,8 +9,11 @@ pub mod Ledgers
 pub mod Worked
 pub mod Supplies
 pub mod Stepping
+pub mod Endings
 pub mod Calls
 pub mod Reports
 pub mod Runs
 pub mod Repeats
 pub mod Enough
+pub mod Uniqueness
+pub mod Promised

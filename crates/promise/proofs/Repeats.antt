@@ -109,7 +109,7 @@ module _ (m : Meaning) (P : ℕ → Option ℕ) where
     leads-did : (N : List Line) (s : State) (k : ℕ) (t : State) (c : Call) → Priced (m .size) P c → noted m t c ≡ [] → Reached N s k t → Leads s (did m t c)
     leads-did N s k t (step-with σ) h n r = reached-step N s k t σ h r .leads
     leads-did N s k t (run-with σ) h n r =
-        steps-keep m (Prices (m .size) P) (step-source m (Prices (m .size) P) (λ τ e q. q)) (Reached N s) (λ j u τ q i. reached-step N s j u τ q i) (m .size) k t σ h r .leads
+        steps-keep m (Prices (m .size) P) (step-source m (Prices (m .size) P) (λ τ e q. q)) (Reached N s) (λ j u τ q i. reached-step N s j u τ q i) (suc (m .size)) k t σ h r .leads
     leads-did N s k t (note-of e p) h n r = leads-note s t e p n (r .leads)
     leads-did N s k t (report-into marks) h n r = r .leads
 

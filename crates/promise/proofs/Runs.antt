@@ -25,30 +25,11 @@ use Rattle.promise.proofs.Ledgers.{due-parts}
 use Rattle.promise.proofs.Supplies.{unlimited-gives, charged-unlimited}
 use Rattle.promise.proofs.Stepping.{readied, planned, acted, went, steps-last, step-source}
 use Rattle.promise.proofs.Calls.{Holds, step-holds}
+use Rattle.promise.proofs.Endings.{Pays, run-unpaid}
 use Rattle.promise.proofs.Reports.{shown, settled-base}
 use Rattle.entry.specs.Entries.{Entry, known, inside}
 
--- the elements whose entry is a range
-abbrev unknown : (ℕ → Entry) → Elements
-unknown E i = not (known (E i))
-
-fewer : (n : ℕ) (E : ℕ → Entry) (e p : ℕ) → e < n → known (E e) ≡ false → count n (unknown (priced E e p)) < count n (unknown E)
-fewer n E e p l k =
-    let a = count-without n (unknown E) e l (not-from-false (known (E e)) k) in
-    let b = count-part n (unknown (priced E e p)) (without (unknown E) e) (λ i li u.
-    let z = not-true (known (priced E e p i)) u in
-    without-from (unknown E) e i (unknown-other E e p i z) (not-from-false (known (E i)) (unknown-was E e p i z))) in
-    omega arith
-
--- the outcome has a price that was paid
-abbrev pub Pays : Outcome → Type 0
-Pays o = (e : ℕ) × (p : ℕ) × (o .answer ≡ paid e p)
-
 module _ (m : Meaning) (laws : Laws m) (F : ℕ → Entry) (N : List Line) where
-  -- fewer ranges are left after the outcome than in s
-  abbrev Nearer : State → Outcome → Type 0
-  Nearer s o = count (m .size) (unknown (o .survey .entries)) < count (m .size) (unknown (s .entries))
-
   -- the survey is settled, or its next price call is for an element with a range
   asks : (R : Outcome → Type 0) (k : ℕ) (s : State) (σ : Source) → Holds m F N k s
       → ((K : Elements) → walk m (s .entries) ≡ settled K → R (rested s σ))
@@ -83,36 +64,6 @@ module _ (m : Meaning) (laws : Laws m) (F : ℕ → Entry) (N : List Line) where
       by-walk (settled K) w x = let z : _≡_ {A = ℕ} 0 1 = cc in absurd (omega arith)
       by-walk (open-at C) o x = by-due C o (due s) refl x
 
-  tried-nearer : (s : State) (σ : Source) (e : ℕ) (q : Option ℕ) → e < m .size → known (s .entries e) ≡ false → (v : Verdict) → Pays (tried s σ e q v) → Nearer s (tried s σ e q v)
-  tried-nearer s σ e q l k (refused c) h = let x = h .2 in let z : _≡_ {A = ℕ} 0 1 = cc in absurd (omega arith)
-  tried-nearer s σ e q l k (given p) h =
-      cond-both (inside (s .entries e) p) _ _ (λ (o : Outcome). Pays o → Nearer s o)
-      (λ t x. fewer (m .size) (s .entries) e p l k)
-      (λ t x. let y = x .2 in let z : _≡_ {A = ℕ} 0 1 = cc in absurd (omega arith)) h
-
-  pays-nearer : (k : ℕ) (s : State) (σ : Source) → Holds m F N k s → Pays (step m s σ) → Nearer s (step m s σ)
-  pays-nearer k s σ h = asks (λ o. Pays o → Nearer s o) k s σ h
-      (λ K q x. let y = x .2 in let z : _≡_ {A = ℕ} 0 1 = cc in absurd (omega arith))
-      (λ e q l u. tried-nearer s σ e q l u (verdict (σ .supply) e))
-
-  pub steps-unpaid : (n k : ℕ) (s : State) (σ : Source) → Holds m F N k s → count (m .size) (unknown (s .entries)) ≤ n → Pays (steps n m s σ) → ⊥
-  steps-unpaid zero k s σ h l x = let a = pays-nearer k s σ h x in omega arith
-  steps-unpaid (suc n) k s σ h l x = by-answer (steps-unpaid n) (step m s σ .answer) refl x
-    where
-      never : Pays (step m s σ) → (y : Answer) → step m s σ .answer ≡ y → ((e p : ℕ) → y ≡ paid e p → ⊥) → ⊥
-      never x y r out = out (x .0) (x .1) (sym r ∙ x .2)
-
-      by-answer : ((j : ℕ) (t : State) (τ : Source) → Holds m F N j t → count (m .size) (unknown (t .entries)) ≤ n → Pays (steps n m t τ) → ⊥)
-          → (y : Answer) → step m s σ .answer ≡ y → Pays (went n m (step m s σ) y) → ⊥
-      by-answer ih finished r z = never z finished r (λ e p q. let w : _≡_ {A = ℕ} 0 1 = cc in omega arith)
-      by-answer ih (paid e p) r z =
-          let a = pays-nearer k s σ h (e, p, r) in ih _ (step m s σ .survey) (step m s σ .source) (step-holds m laws F N k s h σ) (omega arith) z
-      by-answer ih (outside d) r z = never z (outside d) r (λ e p q. let w : _≡_ {A = ℕ} 0 1 = cc in omega arith)
-      by-answer ih (declined d c) r z = never z (declined d c) r (λ e p q. let w : _≡_ {A = ℕ} 0 1 = cc in omega arith)
-
-  pub run-unpaid : (k : ℕ) (s : State) (σ : Source) → Holds m F N k s → (e p : ℕ) → run m s σ .answer ≡ paid e p → ⊥
-  run-unpaid k s σ h e p q = steps-unpaid (m .size) k s σ h (count-all (m .size) (unknown (s .entries))) (e, p, q)
-
   -- a step with a stocked source is done or pays
   step-on : (k : ℕ) (s : State) (σ : Source) → Holds m F N k s → Stocked m F σ → Done m (step m s σ) ⊎ Pays (step m s σ)
   step-on k s σ h g = asks (λ o. Done m o ⊎ Pays o) k s σ h
@@ -130,8 +81,8 @@ module _ (m : Meaning) (laws : Laws m) (F : ℕ → Entry) (N : List Line) where
 
   pub run-done : (k : ℕ) (s : State) (σ : Source) → Holds m F N k s → Stocked m F σ → Done m (run m s σ)
   run-done k s σ h g =
-      let r = steps-last m (Stocked m F) (step-source m (Stocked m F) stocked-price) (Holds m F N) (λ j t τ q i. step-holds m laws F N j t i τ) (m .size) k s σ g h in
+      let r = steps-last m (Stocked m F) (step-source m (Stocked m F) stocked-price) (Holds m F N) (λ j t τ q i. step-holds m laws F N j t i τ) (suc (m .size)) k s σ g h in
       elim (step-on (r .before) (r .state) (r .source) (r .held) (r .kind)) [
         | inl d ↦ subst (Done m) (r .is) d
-        | inr (e, p, q) ↦ absurd (run-unpaid k s σ h e p (sym (ap (λ (o : Outcome). o .answer) (r .is)) ∙ q))
+        | inr (e, p, q) ↦ absurd (run-unpaid m laws s (h .tied .proper) σ e p (sym (ap (λ (o : Outcome). o .answer) (r .is)) ∙ q))
       ]

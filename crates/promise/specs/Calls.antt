@@ -72,7 +72,7 @@ run-firsts (suc k) m s σ =
 -- those that a call pays
 abbrev pub call-firsts : Meaning → State → Call → ℕ
 call-firsts m s (step-with σ) = step-firsts m s σ
-call-firsts m s (run-with σ) = run-firsts (m .size) m s σ
+call-firsts m s (run-with σ) = run-firsts (suc (m .size)) m s σ
 call-firsts m s (note-of e p) = 0
 call-firsts m s (report-into marks) = 0
 

@@ -1,5 +1,6 @@
 -- What a survey promises after any list of calls. Assumes nothing.
 use mathlib.Core.Path.{_≡_}
+use mathlib.Core.Bool.{false}
 use mathlib.Core.List.{List, [], _∷_, _++_}
 use mathlib.Core.Logic.{_⊎_}
 use Prim.Native.Nat.{ℕ, _*_, _<_, _≤_}
@@ -51,30 +52,10 @@ pub record Repeatable (m : Meaning) (E : ℕ → Entry) (cs ds : List Call) : Ty
   pub ends : (A B : Elements) → report m (after m (fresh E) cs) ≡ Some A → report m (after m (fresh E) ds) ≡ Some B
       → (after m (fresh E) cs .ledger ≡ after m (fresh E) ds .ledger) × (A ≡ B)
 
--- P holds of every matroid, sheet of proper ranges, and list of calls
-abbrev pub Always : (Meaning → (ℕ → Entry) → List Call → Type 0) → Type 0
-Always P = (m : Meaning) → Laws m → (E : ℕ → Entry) → ((i : ℕ) → Proper (E i)) → (cs : List Call) → P m E cs
-
--- the whole promise, for every matroid, sheet and list of calls
-abbrev pub Promise : Type 0
-Promise =
-    (m : Meaning) → Laws m → (E : ℕ → Entry) → ((i : ℕ) → Proper (E i))
-    → ((cs : List Call) → Right m E cs × Few m E cs)
-    × ((P : ℕ → Option ℕ) (cs ds : List Call) → Each (Priced (m .size) P) cs → Each (Priced (m .size) P) ds
-    → notes m (fresh E) cs ≡ [] → notes m (fresh E) ds ≡ [] → Repeatable m E cs ds)
-
--- some weighing is possible after any calls
-abbrev pub SomePossible : Type 0
-SomePossible = Always (λ m E cs. (w : Weighing) × Possible m E cs w)
-
 -- of the prices paid at least half are first ones, and any other survey of the sheet needs as many prices as there are first ones
 pub record Halved (m : Meaning) (E : ℕ → Entry) (cs : List Call) : Type 0 where
   pub half : length (after m (fresh E) cs .ledger) ≤ 2 * firsts m (fresh E) cs
   pub owed : (w : Weighing) → Possible m E cs w → (R B : Elements) → Settles m E w R B → firsts m (fresh E) cs ≤ count (m .size) R
-
--- the bound in its two parts
-abbrev pub LowerBound : Type 0
-LowerBound = Always Halved
 
 -- the elements that the lines are for
 abbrev pub elements-of : List Line → Elements
@@ -82,7 +63,34 @@ elements-of [] = nothing
 elements-of (l ∷ ls) = with (elements-of ls) (l .element)
 
 -- the prices that a survey has paid and was told settle the base that it reports
-abbrev pub Sufficient : Type 0
-Sufficient =
-    Always (λ m E cs. (B : Elements) → report m (after m (fresh E) cs) ≡ Some B → (w : Weighing) → Possible m E cs w
-    → Settles m E w (elements-of (after m (fresh E) cs .ledger ++ notes m (fresh E) cs)) B)
+abbrev pub Sufficient : Meaning → (ℕ → Entry) → List Call → Type 0
+Sufficient m E cs =
+    (B : Elements) → report m (after m (fresh E) cs) ≡ Some B → (w : Weighing) → Possible m E cs w
+    → Settles m E w (elements-of (after m (fresh E) cs .ledger ++ notes m (fresh E) cs)) B
+
+-- no element stands twice in a ledger
+abbrev pub Apart : List Line → Type 0
+Apart [] = Unit {0}
+Apart (l ∷ ls) = (elements-of ls (l .element) ≡ false) × Apart ls
+
+-- the whole promise, for the list cs of calls on a fresh survey of the sheet E
+pub record Promise (m : Meaning) (E : ℕ → Entry) (cs : List Call) : Type 0 where
+  -- what is reported is cheapest whatever is still possible, and is reported as soon as there is such a base
+  pub right : Right m E cs
+  -- at most twice the prices that any other survey of the sheet needs are paid
+  pub few : Few m E cs
+  -- other calls with the same prices, and no notes, pay the same prices and come to the same base
+  pub repeatable : (P : ℕ → Option ℕ) (ds : List Call) → Each (Priced (m .size) P) cs → Each (Priced (m .size) P) ds
+      → notes m (fresh E) cs ≡ [] → notes m (fresh E) ds ≡ [] → Repeatable m E cs ds
+  -- something is still possible
+  pub possible : (w : Weighing) × Possible m E cs w
+  -- the bound in its two parts
+  pub halved : Halved m E cs
+  -- what was paid and told is enough
+  pub sufficient : Sufficient m E cs
+  -- nothing is paid twice
+  pub apart : Apart (after m (fresh E) cs .ledger)
+
+-- it holds of every matroid, every sheet of proper ranges and every list of calls
+abbrev pub Promises : Type 0
+Promises = (m : Meaning) → Laws m → (E : ℕ → Entry) → ((i : ℕ) → Proper (E i)) → (cs : List Call) → Promise m E cs

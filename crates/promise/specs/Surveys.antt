@@ -108,9 +108,9 @@ steps (suc k) m s σ =
       | declined e c ↦ o
     ]
 
--- a run: steps until one is not paid
+-- a run: steps until one is not paid. No more can be paid: each makes an element known, and one may stand outside the matroid
 abbrev pub run : Meaning → State → Source → Outcome
-run m s σ = steps (m .size) m s σ
+run m s σ = steps (suc (m .size)) m s σ
 
 -- whether a note that e costs p is accepted
 abbrev pub notable : Meaning → State → ℕ → ℕ → Bool

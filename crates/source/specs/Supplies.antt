@@ -3,7 +3,7 @@
 --     after σ k e      the source after it, where k says whether a price for e makes e free
 use mathlib.Core.Path.{_≡_}
 use mathlib.Core.Bool.{Bool, true, false, cond, not, _&&_, _||_}
-use Prim.Native.Nat.{ℕ, _-_, _≤_}
+use Prim.Native.Nat.{ℕ, _+_, _-_, _≤_, min}
 use lib.Dec.{eqb}
 use Rattle.std.specs.Options.{isSome}
 use Rattle.std.specs.declared.option.Option.{Option}
@@ -22,6 +22,10 @@ pub record Supply : Type 0 where
 -- the largest depth
 abbrev pub deepest : ℕ
 deepest = 255
+
+-- one more than the depth d, and never above the largest
+abbrev pub deeper : ℕ → ℕ
+deeper d = min (d + 1) deepest
 
 -- what holds of every source whose refusal for e comes from the depth `origin e`:
 -- each free element has a price, no depth is above the largest, and no refusal comes from above the source

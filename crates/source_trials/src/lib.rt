@@ -1,0 +1,3 @@
+// Piles of layers at work.
+#[cfg(test)]
+mod tests;
