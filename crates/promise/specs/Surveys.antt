@@ -116,10 +116,13 @@ run m s σ = steps (suc (m .size)) m s σ
 abbrev pub notable : Meaning → State → ℕ → ℕ → Bool
 notable m s e p = ltb e (m .size) && inside (s .entries e) p
 
--- the survey after a note that e costs p: a price that was not paid for
+-- the survey with e known at p: a price that was not paid for
+abbrev pub noted-at : State → ℕ → ℕ → State
+noted-at s e p = record { entries = priced (s .entries) e p; ledger = s .ledger; pending = s .pending }
+
+-- the survey after a note that e costs p
 abbrev pub note : Meaning → State → ℕ → ℕ → State
-note m s e p =
-    cond (notable m s e p) (record { entries = priced (s .entries) e p; ledger = s .ledger; pending = s .pending }) s
+note m s e p = cond (notable m s e p) (noted-at s e p) s
 
 -- the base that a report shows
 abbrev pub report : Meaning → State → Option Elements

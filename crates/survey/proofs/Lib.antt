@@ -1,0 +1,2 @@
+mod Paying
+mod Refusing
