@@ -17,3 +17,4 @@ pub mod Repeats
 pub mod Enough
 pub mod Uniqueness
 pub mod Promised
+pub mod Shown

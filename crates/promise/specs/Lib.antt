@@ -4,5 +4,6 @@ pub mod Surveys
 pub mod Calls
 pub mod Replies
 pub mod Claims
+pub mod Reports
 pub mod Runs
 pub mod Cases

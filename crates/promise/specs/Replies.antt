@@ -12,7 +12,7 @@ use Rattle.element.specs.Marks.{all-marks}
 use Rattle.element.specs.declared.Line.{Line}
 use Rattle.fault.specs.Refusals.{Refusal, refused}
 use Rattle.entry.specs.Entries.{known, inside}
-use Rattle.matroid.specs.Sets.{Elements}
+use Rattle.matroid.specs.Sets.{Elements, cut}
 use Rattle.matroid.specs.Matroids.{Meaning}
 use Rattle.matroid.specs.Questions.{shown}
 use Rattle.source.specs.Supplies.{deeper, refusal-number}
@@ -47,15 +47,15 @@ pub record Reply : Type 0 where
   pub answer : Result (Unit {0}) Refusal
   pub marks : List Bool
 
--- the set that is shown, or no base is settled
-abbrev pub showing : Option Elements → List Bool → Reply
-showing (Some K) marks = record { answer = Ok tt; marks = shown K marks }
-showing None marks = record { answer = Err (refused 13 0 0); marks = marks }
+-- the elements below n that are shown, or no base is settled
+abbrev pub showing : ℕ → Option Elements → List Bool → Reply
+showing n (Some K) marks = record { answer = Ok tt; marks = shown (cut n K) marks }
+showing n None marks = record { answer = Err (refused 13 0 0); marks = marks }
 
 -- a report's answer: too few marks, or no base is settled, or the base that it shows
 abbrev pub report-reply : Meaning → State → List Bool → Reply
 report-reply m s marks =
-    cond (ltb (length marks) all-marks) (record { answer = Err (refused 14 0 0); marks = marks }) (showing (report m s) marks)
+    cond (ltb (length marks) all-marks) (record { answer = Err (refused 14 0 0); marks = marks }) (showing (m .size) (report m s) marks)
 
 -- a call's own sources and marks after it
 abbrev pub spent-call : Meaning → State → Call → Call

@@ -1,2 +1,4 @@
+mod Listing
 mod Paying
 mod Refusing
+mod Running

@@ -1,4 +1,7 @@
 // Surveys: which prices to ask for, until a cheapest base is certain.
 mod pricing;
+mod surveys;
 mod tables;
 mod updates;
+
+pub use surveys::Survey;
