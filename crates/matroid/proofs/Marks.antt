@@ -6,14 +6,18 @@ use mathlib.Core.Logic.{inl, inr}
 use Prim.Native.Nat.{ℕ, zero, suc, _+_, _<_, _≤_, min}
 use native.Mathlib.Omega.{arith}
 use lib.Dec.{leb, ltb}
-use lib.ListN.{length, getD, set, length-set}
+use lib.ListN.{length, getD, set, replicate, length-set}
 use lib.Seq.{getD-set-same, getD-set-other}
-use Rattle.std.proofs.shelf.Lists.{same-lists}
+use Rattle.std.proofs.shelf.Lists.{same-lists, getD-replicate, getD-past, length-replicate}
 use Rattle.std.proofs.shelf.Tests.{cases-eq, cases-lt, lt-ltb, le-ltb, le-leb, eq-eqb, and-parts, cond-true, cond-false}
 use Rattle.element.specs.Marks.{all-marks}
 use Rattle.matroid.specs.Sets.{Elements, with, without}
 use Rattle.matroid.specs.Questions.{marked, shown-from, shown, lowest-mark}
 use Rattle.matroid.proofs.Members.{with-other, without-here, without-other, lowest-cases, lowest-before}
+
+-- marks that are all unset
+pub marked-none : (n i : ℕ) → marked (replicate n false) i ≡ false
+marked-none n i = elim (cases-lt i n) [ inl l ↦ getD-replicate n i false false l | inr l ↦ getD-past (replicate n false) i false (simp length-replicate l) ]
 
 -- one more mark, or one less
 pub marked-set : (marks : List Bool) (e : ℕ) → e < length marks → (i : ℕ) → marked (set marks e true) i ≡ with (marked marks) e i

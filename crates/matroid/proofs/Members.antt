@@ -77,6 +77,10 @@ every-false (suc n) p h =
       | inr q ↦ let r = every-false n p q in (r .0, omega arith, r .2)
     ]
 
+-- one that fails is enough
+pub every-not : (n : ℕ) (p : ℕ → Bool) (i : ℕ) → i < n → p i ≡ false → every n p ≡ false
+every-not n p i l h = none-false (every n p) (λ t. both-ways (p i) h (every-true n p t i l))
+
 pub every-from : (n : ℕ) (p : ℕ → Bool) → ((i : ℕ) → i < n → p i ≡ true) → every n p ≡ true
 every-from zero p h = refl
 every-from (suc n) p h = and-from (p n) (every n p) (h n (omega arith)) (every-from n p (λ i l. h i (omega arith)))
@@ -122,7 +126,7 @@ lowest-is (suc n) p b l h o =
           ∙ (cond-true (p n) n (suc n) (subst (λ (k : ℕ). p k ≡ true) e h) ∙ sym e)
       | inr d ↦
           cond-false (every n q) (cond (p n) n (suc n)) (lowest n p)
-          (none-false (every n q) (λ t. both-ways (q b) (not-from-true (p b) h) (every-true n q t b (omega arith))))
+          (every-not n q b (omega arith) (not-from-true (p b) h))
           ∙ lowest-is n p b (omega arith) h o
     ]
 

@@ -17,17 +17,26 @@ use Rattle.promise.proofs.Walking.{Open}
 use Rattle.promise.proofs.Fitting.{low-high}
 use Rattle.entry.specs.Entries.{Entry, low, high, known, Proper}
 
-not-not : (b : Bool) → not (not b) ≡ b
+pub not-not : (b : Bool) → not (not b) ≡ b
 not-not true = refl
 not-not false = refl
+
+-- i is as high as j, or higher
+abbrev pub as-high : (ℕ → Entry) → ℕ → ℕ → Bool
+as-high E i j = leb (high (E j)) (high (E i))
+
+pub as-high-chain : (E : ℕ → Entry) (i j k : ℕ) → as-high E i j ≡ true → as-high E j k ≡ true → as-high E i k ≡ true
+as-high-chain E i j k p q =
+    let a = leb-true (high (E j)) (high (E i)) p in let b = leb-true (high (E k)) (high (E j)) q in le-leb (high (E k)) (high (E i)) (omega arith)
+
+pub as-high-either : (E : ℕ → Entry) (i j : ℕ) → as-high E i j ≡ false → as-high E j i ≡ true
+as-high-either E i j p = let a = leb-false (high (E j)) (high (E i)) p in le-leb (high (E i)) (high (E j)) (omega arith)
 
 -- the topmost member is one, and no member is higher
 topmost-found : (n : ℕ) (E : ℕ → Entry) (C : Elements) (i : ℕ) → i < n → C i ≡ true
     → (topmost n E C < n) × (C (topmost n E C) ≡ true) × ((k : ℕ) → k < n → C k ≡ true → high (E k) ≤ high (E (topmost n E C)))
 topmost-found n E C i l c =
-    let f = best-found C (λ j. not (C j)) (λ j. sym (not-not (C j))) (λ x y. leb (high (E y)) (high (E x)))
-    (λ x y z p q. let a = leb-true (high (E y)) (high (E x)) p in let b = leb-true (high (E z)) (high (E y)) q in le-leb (high (E z)) (high (E x)) (omega arith))
-    (λ x y p. let a = leb-false (high (E y)) (high (E x)) p in le-leb (high (E x)) (high (E y)) (omega arith)) n i l c in
+    let f = best-found C (λ j. not (C j)) (λ j. sym (not-not (C j))) (as-high E) (as-high-chain E) (as-high-either E) n i l c in
     (f .0, f .1, λ k lk ck. leb-true (high (E k)) (high (E (topmost n E C))) (f .2 k lk ck))
 
 challenges-parts : (E : ℕ → Entry) (C : Elements) (f i : ℕ) → challenges E C f i ≡ true → (C i ≡ true) × (i ≡ f → ⊥) × (low (E f) < high (E i))

@@ -1,7 +1,9 @@
 -- A run, one step after another. Assumes nothing.
 use mathlib.Core.Path.{_≡_, refl, sym, ap, _∙_, subst}
+use mathlib.Core.List.{List}
 use Prim.Native.Nat.{ℕ, zero, suc, _<_, _≤_}
 use native.Mathlib.Omega.{arith}
+use lib.ListN.{getD}
 use Rattle.std.specs.declared.option.Option.{Option}
 use Rattle.std.specs.declared.option.Option.the-variants.{Some, None}
 use Rattle.std.specs.declared.result.Result.{Result}
@@ -9,12 +11,15 @@ use Rattle.std.specs.declared.result.Result.the-variants.{Ok, Err}
 use Rattle.element.specs.declared.Line.{Line}
 use Rattle.fault.specs.declared.Fault.{Fault}
 use Rattle.fault.specs.Refusals.{Refusal, refusal, told}
+use Rattle.entry.specs.declared.Entry.{Entry as Value}
+use Rattle.entry.specs.declared.Entry.the-variants.{Known as KnownValue, Range as RangeValue}
 use Rattle.entry.specs.Entries.{Proper}
+use Rattle.entry.specs.Held.{held, sheet}
 use Rattle.matroid.specs.Matroids.{Meaning, Laws}
 use Rattle.promise.specs.Surveys.{Source, State, Answer, finished, paid, outside, declined, Outcome, step, steps, run}
 use Rattle.promise.specs.Replies.{step-reply, unlined, run-reply}
 use Rattle.promise.proofs.Endings.{payable, pays-one, payable-most}
-use Rattle.promise.proofs.Stepping.{went}
+use Rattle.promise.proofs.Stepping.{step-source, went}
 
 -- ## What an answer was
 
@@ -110,3 +115,16 @@ module _ (m : Meaning) (laws : Laws m) (whole : Outcome) (s : State) (proper : (
   runs-err f h =
       let l = err-last d o (step m s σ .answer) f h in
       (runs-survey l, runs-source l, ap unlined h ∙ ap (λ (x : Outcome). run-reply d o (x .answer)) (ends l))
+
+-- a step leaves the depth of its source
+pub depth-step : (m : Meaning) (s : State) (σ τ : Source) → τ ≡ step m s σ .source → τ .supply .depth ≡ σ .supply .depth
+depth-step m s σ τ e =
+    ap (λ (x : Source). x .supply .depth) e ∙ step-source m (λ x. x .supply .depth ≡ σ .supply .depth) (λ x k q. q) s σ refl
+
+-- the ranges of a table are proper
+held-proper : (x : Value) → Proper (held x)
+held-proper (KnownValue p) = tt
+held-proper (RangeValue r) = r .proper
+
+pub sheet-proper : (es : List Value) (i : ℕ) → Proper (sheet es i)
+sheet-proper es i = held-proper (getD es i (KnownValue 0))
