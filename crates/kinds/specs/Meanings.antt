@@ -67,3 +67,9 @@ pub record CircuitsInWords : Type 0 where
       → (C : Elements) → EvenPart n d a b (with S e) C → IsCircuit (routes n d a b) S e C
   pub of-lots : (n : ℕ) (lot cap : ℕ → ℕ) (S : Elements) (e : ℕ) → Closes (lots n lot cap) S e
       → IsCircuit (lots n lot cap) S e (within-lot lot (with S e) (lot e))
+
+-- what holds of the three kinds
+pub record Theory : Type 0 where
+  pub laws : KindsAreMatroids
+  pub independence : IndependenceInWords
+  pub circuits : CircuitsInWords

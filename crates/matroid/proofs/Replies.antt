@@ -19,7 +19,7 @@ use Rattle.matroid.specs.Sets.{Elements, with, without, cut}
 use Rattle.matroid.specs.Matroids.{Meaning}
 use Rattle.matroid.specs.Circuits.{circuit, IsCircuit}
 use Rattle.matroid.specs.Questions.{marked, shown-from, shown, lowest-mark, admitted, Reply, declined, closing, replied, questioned}
-use Rattle.matroid.specs.Outcomes.{Outcomes, concluded}
+use Rattle.matroid.specs.Outcomes.{OutcomeOf, concluded}
 use Rattle.matroid.proofs.Members.{lowest-found, none-false, with-other}
 
 -- the members of a question that is not refused: below n, and without e, which is below n too
@@ -70,7 +70,7 @@ circuit-below m S e C l z h k =
     ]
 
 module _ (m : Meaning) (e : ℕ) (marks members : List Bool) (a : Admitted (m .size) e members) where
-  concluded-replied : (o : Outcome) → Outcomes m (marked members) e o → concluded (m .size) o marks ≡ replied m e marks (Ok members)
+  concluded-replied : (o : Outcome) → OutcomeOf m (marked members) e o → concluded (m .size) o marks ≡ replied m e marks (Ok members)
   concluded-replied Dependent h = sym (cond-false (m .independent (marked members)) (closing m (marked members) e marks) (declined (refused 16 0 0) marks) h)
   concluded-replied Independent (h, g) =
       sym (cond-true (m .independent (marked members)) (closing m (marked members) e marks) (declined (refused 16 0 0) marks) h
@@ -83,9 +83,9 @@ module _ (m : Meaning) (e : ℕ) (marks members : List Bool) (a : Admitted (m .s
 
 -- what is concluded from an outcome in m is what m replies; n and own are its size and itself as the code has them
 pub concluded-questioned : (m own : Meaning) (n : ℕ) (set : List Bool) (e : ℕ) (marks members : List Bool) (o : Outcome) → n ≡ m .size → own ≡ m
-    → Ok members ≡ admitted n set e marks → Outcomes own (marked members) e o → concluded n o marks ≡ questioned m set e marks
+    → Ok members ≡ admitted n set e marks → OutcomeOf own (marked members) e o → concluded n o marks ≡ questioned m set e marks
 concluded-questioned m own n set e marks members o s q h g =
     let p : admitted (m .size) set e marks ≡ Ok members = ap (λ (k : ℕ). admitted k set e marks) (sym s) ∙ sym h in
-    let k : Outcomes m (marked members) e o = subst (λ (x : Meaning). Outcomes x (marked members) e o) q g in
+    let k : OutcomeOf m (marked members) e o = subst (λ (x : Meaning). OutcomeOf x (marked members) e o) q g in
     ap (λ (k : ℕ). concluded k o marks) s ∙ concluded-replied m e marks members (admits (m .size) set e marks members p) o k
     ∙ ap (replied m e marks) (sym p)

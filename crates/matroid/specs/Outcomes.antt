@@ -14,10 +14,10 @@ use Rattle.matroid.specs.Circuits.{IsCircuit}
 use Rattle.matroid.specs.Questions.{marked, shown, Reply, declined}
 
 -- the outcome is that of S and e
-abbrev pub Outcomes : Meaning → Elements → ℕ → Outcome → Type 0
-Outcomes m S e Dependent = m .independent S ≡ false
-Outcomes m S e Independent = (m .independent S ≡ true) × (m .independent (with S e) ≡ true)
-Outcomes m S e (Circuit C) = (m .independent S ≡ true) × (m .independent (with S e) ≡ false) × IsCircuit m S e (marked C)
+abbrev pub OutcomeOf : Meaning → Elements → ℕ → Outcome → Type 0
+OutcomeOf m S e Dependent = m .independent S ≡ false
+OutcomeOf m S e Independent = (m .independent S ≡ true) × (m .independent (with S e) ≡ true)
+OutcomeOf m S e (Circuit C) = (m .independent S ≡ true) × (m .independent (with S e) ≡ false) × IsCircuit m S e (marked C)
 
 -- the reply from it: a circuit is shown by its elements below n
 abbrev pub concluded : ℕ → Outcome → List Bool → Reply

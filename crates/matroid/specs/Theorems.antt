@@ -64,3 +64,14 @@ abbrev pub OneCircuit : Type 0
 OneCircuit =
     (m : Meaning) → Laws m → (S : Elements) (e : ℕ) → Closes m S e
     → Circuit m S e (circuit m S e) × ((C : Elements) → Circuit m S e C → IsCircuit m S e C)
+
+-- what holds in every matroid, and that there are some
+pub record Theory : Type 0 where
+  pub free : FreeMatroid
+  pub augmentation : Augmentation
+  pub rank : OneRank
+  pub thresholds : CheapestByThresholds
+  pub greedy : GreedyCheapest
+  pub maximum : StrictMaximum
+  pub span : SpanOfSpan
+  pub circuit : OneCircuit

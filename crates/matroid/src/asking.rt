@@ -34,6 +34,13 @@ pub fn lowest_mark(marks: &[bool; MARKS], from: usize) -> usize
     MARKS
 }
 
+// Whether there is a mark at i; beyond the marks there is none.
+fn has_mark(marks: &[bool; MARKS], i: usize) -> bool
+    ensures { λ r. ⌜ r ≡ marked (now (marks .entry)) i ⌝ }
+{
+    i < MARKS && marks[i]
+}
+
 // The marks that stand for the set.
 fn first_marks(set: &[bool]) -> [bool; MARKS]
     requires { ⌜ all-marks ≤ length (now set) ⌝ }
@@ -68,18 +75,18 @@ pub fn admit(
             element: stray as Element,
         });
     }
-    if members[element as usize] {
+    if has_mark(&members, element as usize) {
         return Err(Fault::AlreadyInSet { element });
     }
     Ok(members)
 }
 
-// Marks the elements below n of the circuit, and unmarks the others.
-fn show(circuit: &[bool; MARKS], n: Element, marks: &mut [bool])
-    ensures { λ _. ⌜ now (marks .exit) ≡ shown (cut n (marked (now (circuit .entry)))) (now (marks .entry)) ⌝ }
+// Marks the elements below n of the set, and unmarks the others.
+pub fn show(members: &[bool; MARKS], n: Element, marks: &mut [bool])
+    ensures { λ _. ⌜ now (marks .exit) ≡ shown (cut n (marked (now (members .entry)))) (now (marks .entry)) ⌝ }
 {
     for k in 0..marks.len().min(MARKS) {
-        marks[k] = k < n as usize && circuit[k];
+        marks[k] = k < n as usize && members[k];
     }
 }
 

@@ -11,6 +11,7 @@ pub use asking::Outcome;
 pub use asking::admit;
 pub use asking::conclude;
 pub use asking::lowest_mark;
+pub use asking::show;
 use element::Element;
 use fault::Fault;
 pub use theory::theory_holds;

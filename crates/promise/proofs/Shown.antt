@@ -21,11 +21,14 @@ use Rattle.matroid.specs.Bases.{Base, Cheapest}
 use Rattle.matroid.specs.Questions.{marked, shown}
 use Rattle.matroid.proofs.Counts.{sum-same}
 use Rattle.matroid.proofs.Marks.{shown-here}
-use Rattle.promise.specs.Surveys.{fresh, report}
-use Rattle.promise.specs.Calls.{Call, after}
+use Rattle.promise.specs.Surveys.{Source, State, fresh, run, report}
+use Rattle.promise.specs.Calls.{Call, after, notes, firsts}
 use Rattle.promise.specs.Claims.{AlwaysCheapest, Right}
 use Rattle.promise.specs.Replies.{Reply, showing, report-reply}
-use Rattle.promise.specs.Reports.{among, Reported}
+use Rattle.promise.specs.Reports.{among, Reported, Assures}
+use Rattle.promise.specs.Runs.{Done, Progresses}
+use Rattle.promise.proofs.Reports.{holding, right, few}
+use Rattle.promise.proofs.Runs.{run-done}
 
 module _ (m : Meaning) (laws : Laws m) (A B : Elements) (same : (i : ℕ) → i < m .size → B i ≡ A i) where
   base-same : Base m A → Base m B
@@ -49,16 +52,16 @@ among-shown n K marks small room i l =
     ap (λ b. b && marked (shown (cut n K) marks) i) (lt-ltb i all-marks (omega arith)) ∙
     (shown-here (cut n K) marks i false (omega arith) (omega arith) ∙ ap (λ b. b && K i) (lt-ltb i n l))
 
-module _ (m : Meaning) (laws : Laws m) (E : ℕ → Entry) (cs : List Call) (right : Right m E cs) (small : m .size ≤ all-marks) (marks : List Bool) where
+module _ (m : Meaning) (laws : Laws m) (E : ℕ → Entry) (cs : List Call) (is-right : Right m E cs) (small : m .size ≤ all-marks) (marks : List Bool) where
   by-report : (o : Option Elements) → report m (after m (fresh E) cs) ≡ o → all-marks ≤ length marks
       → Reported m E cs (showing (m .size) o marks .answer) (showing (m .size) o marks .marks)
   by-report (Some K) r room = record {
-    sound = λ h. always-same m laws K (among (shown (cut (m .size) K) marks)) (among-shown (m .size) K marks small room) E cs (right .sound K r);
+    sound = λ h. always-same m laws K (among (shown (cut (m .size) K) marks)) (among-shown (m .size) K marks small room) E cs (is-right .sound K r);
     complete = λ B a l. refl;
   }
   by-report None r room = record {
     sound = λ h. let z : _≡_ {A = ℕ} 0 1 = cc in absurd (omega arith);
-    complete = λ B a l. let x = right .complete B a in let y = sym r ∙ x .1 in let z : _≡_ {A = ℕ} 0 1 = cc in absurd (omega arith);
+    complete = λ B a l. let x = is-right .complete B a in let y = sym r ∙ x .1 in let z : _≡_ {A = ℕ} 0 1 = cc in absurd (omega arith);
   }
 
   -- what a report answers is what is wanted of it
@@ -71,3 +74,20 @@ module _ (m : Meaning) (laws : Laws m) (E : ℕ → Entry) (cs : List Call) (rig
     | inr l ↦ subst (λ (r : Reply). Reported m E cs (r .answer) (r .marks)) (sym (cond-false (ltb (length marks) all-marks) _ _ (le-ltb (length marks) all-marks l)))
         (by-report (report m (after m (fresh E) cs)) refl l)
   ]
+
+-- a report that answers so assures whoever asked, whatever calls came before it
+pub assures : (m : Meaning) → Laws m → m .size ≤ all-marks → (s : State) (marks after-marks : List Bool) (r : Result (Unit {0}) Refusal)
+    → r ≡ report-reply m s marks .answer → after-marks ≡ report-reply m s marks .marks → Assures m s r after-marks
+assures m laws small s marks after-marks r a b E proper cs q = record {
+  reported =
+      subst (λ (x : Result (Unit {0}) Refusal). Reported m E cs x after-marks) (sym (a ∙ ap (λ (t : State). report-reply m t marks .answer) q))
+      (subst (λ (x : List Bool). Reported m E cs (report-reply m (after m (fresh E) cs) marks .answer) x) (sym (b ∙ ap (λ (t : State). report-reply m t marks .marks) q))
+      (reported m laws E cs (right m laws E proper cs) small marks));
+  few = few m laws E proper cs;
+}
+
+-- runs come to a base, whatever calls came before them
+pub progresses : (m : Meaning) → Laws m → (s : State) (σ : Source) → Progresses m s σ
+progresses m laws s σ E proper cs q stocked =
+    subst (λ (t : State). Done m (run m t σ)) (sym q)
+    (run-done m laws E (notes m (fresh E) cs) (firsts m (fresh E) cs) (after m (fresh E) cs) σ (holding m laws E proper cs) stocked)

@@ -1,13 +1,15 @@
 -- How runs end. Assumes nothing.
 use mathlib.Core.Path.{_≡_}
 use mathlib.Core.Bool.{true, false}
+use mathlib.Core.List.{List}
 use Prim.Native.Nat.{ℕ, _<_}
 use Rattle.std.specs.declared.option.Option.the-variants.{Some, None}
 use Rattle.matroid.specs.Sets.{Elements}
 use Rattle.matroid.specs.Matroids.{Meaning}
 use Rattle.matroid.specs.Bases.{Base}
-use Rattle.entry.specs.Entries.{Entry, known, inside}
-use Rattle.promise.specs.Surveys.{Source, State, Outcome, finished, paid, run, report}
+use Rattle.entry.specs.Entries.{Entry, Proper, known, inside}
+use Rattle.promise.specs.Surveys.{Source, State, fresh, Outcome, finished, paid, run, report}
+use Rattle.promise.specs.Calls.{Call, after}
 
 -- the answer is no price
 abbrev pub Unpaid : Outcome → Type 0
@@ -21,3 +23,7 @@ pub record Stocked (m : Meaning) (E : ℕ → Entry) (σ : Source) : Type 0 wher
 -- finished, with a base to show
 abbrev pub Done : Meaning → Outcome → Type 0
 Done m o = (o .answer ≡ finished) × ((B : Elements) × (report m (o .survey) ≡ Some B) × Base m B)
+
+-- from a survey that calls led to from a fresh survey of a sheet, a run with such a source comes to a base
+abbrev pub Progresses : Meaning → State → Source → Type 0
+Progresses m s σ = (E : ℕ → Entry) → ((i : ℕ) → Proper (E i)) → (cs : List Call) → s ≡ after m (fresh E) cs → Stocked m E σ → Done m (run m s σ)

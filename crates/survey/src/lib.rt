@@ -1,5 +1,6 @@
 // Surveys: which prices to ask for, until a cheapest base is certain.
 mod pricing;
+mod reports;
 mod steps;
 mod surveys;
 mod tables;

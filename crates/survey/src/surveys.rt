@@ -4,9 +4,14 @@ ghost use Rattle.std.specs.shelf.Maps.{nth};
 ghost use Rattle.std.specs.Vec.{made, refused as failing};
 ghost use Rattle.entry.specs.Held.{held, sheet};
 ghost use Rattle.fault.specs.Refusals.{refusal, refused, told};
-ghost use Rattle.promise.specs.Replies.{note-reply};
-ghost use Rattle.promise.specs.Surveys.{fresh, note};
-ghost use Rattle.survey.specs.States.{listed, state};
+ghost use Rattle.promise.specs.Replies.{note-reply, report-reply, run-reply, step-reply};
+ghost use Rattle.promise.specs.Surveys.{fresh, note, run, step};
+ghost use Rattle.promise.specs.Reports.{Assures};
+ghost use Rattle.promise.specs.Runs.{Progresses, Unpaid};
+ghost use Rattle.survey.specs.States.{listed, sourced, state};
+use crate::reports::show_settled;
+use crate::steps::run_steps;
+use crate::steps::take_step;
 use crate::tables::Tables;
 use element::Element;
 use element::Line;
@@ -15,6 +20,7 @@ use element::Price;
 use entry::Entry;
 use fault::Fault;
 use matroid::Matroid;
+use source::Source;
 use std::alloc::Global;
 
 // A survey of a matroid's elements.
@@ -55,6 +61,28 @@ impl<M: Matroid + Drop> Survey<M> {
         }
     }
 
+    // One step: none where the survey is finished, else the line that was paid.
+    pub fn step<S: Source>(&mut self, source: &mut S) -> Result<Option<Line>, Fault>
+        ensures matroid { λ _. ⌜ now (self .exit) .matroid ≡ now (self .entry) .matroid ⌝ }
+        ensures answer { λ r. ⌜ told (λ x. x) r ≡ step-reply (S·Source .meaning (now (source .entry)) .depth) (S·Source .origin (now (source .exit))) (step (M·Matroid .meaning (now (self .entry) .matroid)) (state (now (self .entry) .tables)) (sourced (S·Source .meaning) (S·Source .keeps) (now (source .entry))) .answer) ⌝ }
+        ensures survey { λ _. ⌜ state (now (self .exit) .tables) ≡ step (M·Matroid .meaning (now (self .entry) .matroid)) (state (now (self .entry) .tables)) (sourced (S·Source .meaning) (S·Source .keeps) (now (source .entry))) .survey ⌝ }
+        ensures source { λ _. ⌜ sourced (S·Source .meaning) (S·Source .keeps) (now (source .exit)) ≡ step (M·Matroid .meaning (now (self .entry) .matroid)) (state (now (self .entry) .tables)) (sourced (S·Source .meaning) (S·Source .keeps) (now (source .entry))) .source ⌝ }
+    {
+        take_step(&self.matroid, &mut self.tables, source)
+    }
+
+    // Steps until the survey is finished, or a step is refused; the steps made stay.
+    pub fn run<S: Source>(&mut self, source: &mut S) -> Result<(), Fault>
+        ensures matroid { λ _. ⌜ now (self .exit) .matroid ≡ now (self .entry) .matroid ⌝ }
+        ensures answer { λ r. ⌜ told (λ x. x) r ≡ run-reply (S·Source .meaning (now (source .entry)) .depth) (S·Source .origin (now (source .exit))) (run (M·Matroid .meaning (now (self .entry) .matroid)) (state (now (self .entry) .tables)) (sourced (S·Source .meaning) (S·Source .keeps) (now (source .entry))) .answer) ⌝ }
+        ensures survey { λ _. ⌜ state (now (self .exit) .tables) ≡ run (M·Matroid .meaning (now (self .entry) .matroid)) (state (now (self .entry) .tables)) (sourced (S·Source .meaning) (S·Source .keeps) (now (source .entry))) .survey ⌝ }
+        ensures source { λ _. ⌜ sourced (S·Source .meaning) (S·Source .keeps) (now (source .exit)) ≡ run (M·Matroid .meaning (now (self .entry) .matroid)) (state (now (self .entry) .tables)) (sourced (S·Source .meaning) (S·Source .keeps) (now (source .entry))) .source ⌝ }
+        ensures unpaid { λ _. ⌜ Unpaid (run (M·Matroid .meaning (now (self .entry) .matroid)) (state (now (self .entry) .tables)) (sourced (S·Source .meaning) (S·Source .keeps) (now (source .entry)))) ⌝ }
+        ensures progress { λ _. ⌜ Progresses (M·Matroid .meaning (now (self .entry) .matroid)) (state (now (self .entry) .tables)) (sourced (S·Source .meaning) (S·Source .keeps) (now (source .entry))) ⌝ }
+    {
+        run_steps(&self.matroid, &mut self.tables, source)
+    }
+
     // Makes a price known that was learnt elsewhere: the ledger stays as it was.
     pub fn note(&mut self, element: Element, price: Price) -> Result<(), Fault>
         ensures matroid { λ _. ⌜ now (self .exit) .matroid ≡ now (self .entry) .matroid ⌝ }
@@ -73,6 +101,15 @@ impl<M: Matroid + Drop> Survey<M> {
         }
         self.tables.learn(element, price);
         Ok(())
+    }
+
+    // Shows the base that is settled, in the first marks.
+    pub fn report(&self, marks: &mut [bool]) -> Result<(), Fault>
+        ensures answer { λ r. ⌜ told (λ x. x) r ≡ report-reply (M·Matroid .meaning (now (self .entry) .matroid)) (state (now (self .entry) .tables)) (now (marks .entry)) .answer ⌝ }
+        ensures marks { λ _. ⌜ now (marks .exit) ≡ report-reply (M·Matroid .meaning (now (self .entry) .matroid)) (state (now (self .entry) .tables)) (now (marks .entry)) .marks ⌝ }
+        ensures promise { λ r. ⌜ Assures (M·Matroid .meaning (now (self .entry) .matroid)) (state (now (self .entry) .tables)) (told (λ x. x) r) (now (marks .exit)) ⌝ }
+    {
+        show_settled(&self.matroid, &self.tables, marks)
     }
 
     // The lines of the prices paid, in their order.

@@ -11,4 +11,4 @@ use Rattle.matroid.proofs.asking.show.Needs as need
 pub returns : need.returns
 returns c =
     let e : c .loop-k .k ≡ min (length (c .args .marks .now)) all-marks = omega arith in
-    showing-all (cut (c .args .n) (marked (c .args .circuit .now))) (c .args .marks .now) (c .loop-k .marks) (c .loop-k .k) e (c .loop-k .inv)
+    showing-all (cut (c .args .n) (marked (c .args .members .now))) (c .args .marks .now) (c .loop-k .marks) (c .loop-k .k) e (c .loop-k .inv)

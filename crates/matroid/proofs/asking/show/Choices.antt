@@ -4,4 +4,4 @@ use Rattle.matroid.proofs.Marks.{Showing}
 use Rattle.matroid.proofs.asking.show.Given as given
 
 abbrev pub Inv-loop-k : given.InvT-loop-k
-Inv-loop-k l = Showing (cut (l .n) (marked (l .circuit))) (l .entry .marks) (l .marks) (l .k)
+Inv-loop-k l = Showing (cut (l .n) (marked (l .members))) (l .entry .marks) (l .marks) (l .k)

@@ -1,0 +1,4 @@
+pub mod Eliminated
+pub mod Pivots
+pub mod Reduced
+pub mod WordOutcomes
