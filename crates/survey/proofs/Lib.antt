@@ -1,4 +1,4 @@
 mod Listing
 mod Paying
 mod Refusing
-mod Running
+pub mod Running
