@@ -21,6 +21,7 @@ mod writing;
 use crate::reader::Reader;
 use crate::sections::by_kind;
 use fault::Fault;
+pub use sections::write_lines;
 pub use sections::write_sheet;
 use std::alloc::Global;
 pub use values::Body;
@@ -28,6 +29,10 @@ pub use values::ByKind;
 pub use values::ElementLine;
 pub use values::Lot;
 pub use values::Sheet;
+pub use writing::put_field;
+pub use writing::put_number;
+pub use writing::put_price;
+pub use writing::put_word;
 use writer::Writer;
 
 // The most bytes of a sheet.

@@ -7,10 +7,10 @@ ghost use Rattle.std.specs.Of.Vec.{vec-cap, vec-items, vec-len};
 ghost use Rattle.std.specs.Vec.{made};
 ghost use Rattle.std.specs.declared.option.Option.the-variants.{None};
 ghost use Rattle.fault.specs.Refusals.{starved};
-ghost use Rattle.form.specs.Sheets.{bodyText, most-lines, section as aSection, written};
+ghost use Rattle.form.specs.Sheets.{bodyText, most-lines, recordedText, section as aSection, written};
 ghost use Rattle.form.specs.Reading.{body as aBody, bodyOf as sectionsOf, counted, repeated};
 ghost use Rattle.writer.specs.Written.{Wrote};
-ghost use Rattle.sheet.specs.Code.{bodyOf, sheetOf};
+ghost use Rattle.sheet.specs.Code.{bodyOf, recordOf, sheetOf};
 ghost use Rattle.sheet.specs.Readers.{Empty, Reads, room};
 use crate::lines::ElementRow;
 use crate::lines::ElementRowRow;
@@ -33,6 +33,7 @@ use crate::values::Body;
 use crate::values::ByKind;
 use crate::values::Sheet;
 use element::Element;
+use element::Line;
 use element::Place;
 use fault::Fault;
 use form::Kind;
@@ -189,6 +190,13 @@ fn write_section<'a, F: Row<'a>>(writer: &mut Writer, form: &F, items: &[F::Item
     }
 }
 
+// Lines of elements and prices, after their count.
+pub fn write_lines(writer: &mut Writer, lines: &[Line])
+    ensures { λ _. ⌜ Wrote (now (writer .entry)) (aSection recordedText (map recordOf (now (lines .entry)))) (now (writer .exit)) ⌝ }
+{
+    write_section(writer, &RecordRow { elements: 0 }, lines);
+}
+
 // The allowance and the three sections.
 fn write_body<'a, P: Row<'a>, T: Tail<'a>>(
     writer: &mut Writer,
@@ -202,7 +210,7 @@ fn write_body<'a, P: Row<'a>, T: Tail<'a>>(
     write_section(writer, form, &body.places);
     let row: ElementRow<T> = ElementRow { tail: T::over(0) };
     write_section(writer, &row, &body.elements);
-    write_section(writer, &RecordRow { elements: 0 }, &body.recorded);
+    write_lines(writer, &body.recorded);
 }
 
 // A whole sheet.

@@ -14,4 +14,4 @@ returns g c =
     (wrote-as (ap (λ xs. section (g .P·Row .text) (map (g .P·Row .value) xs)) (c .deref .ensures .value)) (c .write-section .ensures))
     (wrote-both
     (wrote-as (ap (λ xs. section (elementText (g .T·Tail .text)) (map (elementOf (g .T·Tail .value)) xs)) (c .deref-2 .ensures .value)) (c .write-section-2 .ensures))
-    (wrote-as (ap (λ xs. section recordedText (map recordOf xs)) (c .deref-3 .ensures .value)) (c .write-section-3 .ensures))))
+    (wrote-as (ap (λ xs. section recordedText (map recordOf xs)) (c .deref-3 .ensures .value)) (c .write-lines .ensures))))

@@ -1,0 +1,3 @@
+// Plans: from the bytes of a sheet to the bytes of its plan.
+mod naming;
+mod texts;
