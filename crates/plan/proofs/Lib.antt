@@ -1,1 +1,2 @@
+mod Deciding
 mod Keeping

@@ -1,6 +1,6 @@
 -- The plan of a survey as bytes. Assumes nothing.
 --     plan-of m E σ named      the plan of a survey of the matroid m and the entries E, run with the source σ
-use mathlib.Core.Bool.{cond, not, _&&_}
+use mathlib.Core.Bool.{cond, false, not, _&&_}
 use mathlib.Core.List.{List, [], _∷_, _++_, map}
 use Prim.Native.Nat.{ℕ, zero, suc}
 use lib.Chars.{codes}
@@ -12,9 +12,11 @@ use Rattle.std.specs.declared.result.Result.the-variants.{Ok, Err}
 use Rattle.element.specs.declared.Line.{Line}
 use Rattle.fault.specs.Refusals.{Refusal, refused}
 use Rattle.entry.specs.Entries.{Entry, low, high}
-use Rattle.matroid.specs.Sets.{Elements, count, sum}
+use Rattle.matroid.specs.Sets.{Elements, count, cut, sum}
 use Rattle.matroid.specs.Matroids.{Meaning}
-use Rattle.source.specs.Supplies.{Supply, exhausted}
+use Rattle.source.specs.Supplies.{Supply, exhausted, plain}
+use Rattle.source.specs.Records.{recorded}
+use Rattle.layers.specs.Layers.{limited}
 use Rattle.promise.specs.Surveys.{Source, State, Outcome, fresh, run, report}
 use Rattle.promise.specs.Replies.{run-reply}
 use Rattle.form.specs.Sheets.{spaced, ended, priceText, recordedText, section}
@@ -53,14 +55,28 @@ abbrev pub stopped-text : Refusal → State → List ℕ
 stopped-text f s =
     spaced (codes "stopped") ++ (spaced (decimal (f .number)) ++ (spaced (decimal (f .place)) ++ (ended (decimal (f .depth)) ++ ledger-text (s .ledger))))
 
+-- what is written of a survey, by the answer that it came to, where K is shown
+abbrev pub decided-text : ℕ → State → (ℕ → List ℕ) → Result (Unit {0}) Refusal → Elements → List ℕ
+decided-text n s named (Ok u) K = finished-text n s named K
+decided-text n s named (Err f) K = stopped-text f s
+
+-- the first answer where it is a refusal, and else the second
+abbrev pub and-then : Result (Unit {0}) Refusal → Result (Unit {0}) Refusal → Result (Unit {0}) Refusal
+and-then (Err f) r = Err f
+and-then (Ok u) r = r
+
 -- a refusal at a spent allowance comes from the quota, which stands one above the record; any other comes from the record
 abbrev pub quota-origin : Supply → ℕ → ℕ
 quota-origin σ e = cond (not (σ .free e) && exhausted (σ .allowance)) 1 0
 
--- by the answer of the run, and the base that is then reported
+-- the recorded prices, no more of them than the allowance
+abbrev pub rationed : List Line → ℕ → Source
+rationed ls n = record { supply = limited (plain (recorded ls)) n; keeps = λ e. false }
+
+-- by the answer of a run, and the base that is settled after it
 abbrev pub by-answer : ℕ → State → (ℕ → List ℕ) → Result (Unit {0}) Refusal → Option Elements → List ℕ
 by-answer n s named (Err f) o = stopped-text f s
-by-answer n s named (Ok u) (Some K) = finished-text n s named K
+by-answer n s named (Ok u) (Some K) = finished-text n s named (cut n K)
 by-answer n s named (Ok u) None = stopped-text (refused 13 0 0) s
 
 -- the plan of the outcome of a run

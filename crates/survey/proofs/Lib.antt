@@ -1,4 +1,4 @@
-mod Listing
+pub mod Listing
 mod Paying
 mod Refusing
 pub mod Running

@@ -1,0 +1,106 @@
+// The plan of a body: its survey is run with the recorded prices, and what it came to is written.
+ghost use mathlib.Core.Bool.{false};
+ghost use mathlib.Core.List.{map};
+ghost use mathlib.Core.Path.{_≡_};
+ghost use Rattle.std.specs.Of.Vec.{vec-items};
+ghost use Rattle.std.specs.declared.result.Result.the-variants.{Ok};
+ghost use Rattle.entry.specs.Held.{sheet};
+ghost use Rattle.fault.specs.Refusals.{starved, told};
+ghost use Rattle.matroid.specs.Questions.{marked};
+ghost use Rattle.promise.specs.Replies.{report-reply, run-reply};
+ghost use Rattle.promise.specs.Surveys.{run};
+ghost use Rattle.survey.specs.States.{listed, sourced, state};
+ghost use Rattle.writer.specs.Written.{Wrote};
+ghost use Rattle.plan.specs.Names.{name-of};
+ghost use Rattle.plan.specs.Texts.{and-then, decided-text, plan-of, rationed};
+use crate::naming::Naming;
+use crate::texts::put_finished;
+use crate::texts::put_stopped;
+use element::Element;
+use element::MARKS;
+use entry::Entry;
+use fault::Fault;
+use layers::Quota;
+use layers::QuotaSource;
+use matroid::Matroid;
+use sheet::Body;
+use sheet::ElementLine;
+use source::Record;
+use source::RecordSource;
+use source::Source;
+use std::alloc::Global;
+use survey::Survey;
+use writer::Writer;
+
+// The most bytes of a plan.
+const MOST_BYTES: usize = 65_536;
+
+// The entries of the first n elements: those of the lines, and 0 is known of any other.
+fn entries_of<T: Drop>(elements: &[ElementLine<T>], n: Element) -> [Entry; MARKS]
+    ensures { λ r. ⌜ sheet r ≡ listed n (map (λ e. e .entry) (now (elements .entry))) ⌝ }
+{
+    let mut table = [Entry::Known(0); MARKS];
+    for i in 0..elements.len().min(n as usize) {
+        table[i] = elements[i].entry;
+    }
+    table
+}
+
+// Runs the survey, and shows the base that it comes to.
+fn run_and_report<M: Matroid + Drop, S: Source>(
+    survey: &mut Survey<M>,
+    source: &mut S,
+    marks: &mut [bool],
+) -> Result<(), Fault>
+    ensures matroid { λ _. ⌜ now (survey .exit) .matroid ≡ now (survey .entry) .matroid ⌝ }
+    ensures survey { λ _. ⌜ state (now (survey .exit) .tables) ≡ run (M·Matroid .meaning (now (survey .entry) .matroid)) (state (now (survey .entry) .tables)) (sourced (S·Source .meaning) (S·Source .keeps) (now (source .entry))) .survey ⌝ }
+    ensures source { λ _. ⌜ sourced (S·Source .meaning) (S·Source .keeps) (now (source .exit)) ≡ run (M·Matroid .meaning (now (survey .entry) .matroid)) (state (now (survey .entry) .tables)) (sourced (S·Source .meaning) (S·Source .keeps) (now (source .entry))) .source ⌝ }
+    ensures answer { λ r. ⌜ told (λ x. x) r ≡ and-then (run-reply (S·Source .meaning (now (source .entry)) .depth) (S·Source .origin (now (source .exit))) (run (M·Matroid .meaning (now (survey .entry) .matroid)) (state (now (survey .entry) .tables)) (sourced (S·Source .meaning) (S·Source .keeps) (now (source .entry))) .answer)) (report-reply (M·Matroid .meaning (now (survey .exit) .matroid)) (state (now (survey .exit) .tables)) (now (marks .entry)) .answer) ⌝ }
+    ensures marks { λ r. ⌜ (told (λ x. x) r ≡ Ok tt → now (marks .exit) ≡ report-reply (M·Matroid .meaning (now (survey .exit) .matroid)) (state (now (survey .exit) .tables)) (now (marks .entry)) .marks) ⌝ }
+{
+    survey.run(source)?;
+    survey.report(marks)
+}
+
+// What the survey came to.
+fn put_decided<'a, N: Naming<'a>, M: Matroid + Drop>(
+    writer: &mut Writer,
+    survey: &Survey<M>,
+    body: &Body<N::Place, N::Tail>,
+    n: Element,
+    answer: Result<(), Fault>,
+    marks: &[bool; MARKS],
+)
+    ensures { λ _. ⌜ Wrote (now (writer .entry)) (decided-text n (state (now (survey .entry) .tables)) (name-of (N·Naming .named (vec-items (now (body .entry) .places))) (vec-items (now (body .entry) .elements))) (told (λ x. x) answer) (marked (now (marks .entry)))) (now (writer .exit)) ⌝ }
+{
+    match answer {
+        Ok(()) => put_finished::<N, M>(
+            writer,
+            survey,
+            body.places.as_slice(),
+            body.elements.as_slice(),
+            n,
+            marks,
+        ),
+        Err(fault) => put_stopped(writer, survey, fault),
+    }
+}
+
+// The plan of a body whose elements are those of the matroid.
+pub fn plan_body<'a, N: Naming<'a>, M: Matroid + Drop>(
+    heap: Global,
+    matroid: M,
+    body: &Body<N::Place, N::Tail>,
+) -> Result<Vec<u8>, Fault>
+    ensures { λ r. ⌜ (starved r ≡ false → told vec-items r ≡ Ok (plan-of (M·Matroid .meaning matroid) (listed (M·Matroid .meaning matroid .size) (map (λ e. e .entry) (vec-items (now (body .entry) .elements)))) (rationed (vec-items (now (body .entry) .recorded)) (now (body .entry) .allowance)) (name-of (N·Naming .named (vec-items (now (body .entry) .places))) (vec-items (now (body .entry) .elements))))) ⌝ }
+{
+    let n = matroid.size();
+    let entries = entries_of(body.elements.as_slice(), n);
+    let mut source = Quota::new(Record::new(body.recorded.as_slice()), body.allowance);
+    let mut survey = Survey::new(heap, matroid, &entries)?;
+    let mut writer = Writer::with_room(heap, MOST_BYTES)?;
+    let mut marks = [false; MARKS];
+    let answer = run_and_report(&mut survey, &mut source, &mut marks);
+    put_decided::<N, M>(&mut writer, &survey, body, n, answer, &marks);
+    writer.finish()
+}
