@@ -1,2 +1,4 @@
 mod Deciding
 mod Keeping
+mod Linking
+mod Promised
