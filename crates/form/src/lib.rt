@@ -1,4 +1,6 @@
 // The form of a sheet: how one is written as bytes, which sheets are legal, and how bytes are checked. All of it is definitions and theorems.
+ghost use mathlib.Core.Path.{_≡_};
+ghost use mathlib.Core.Bool.{true};
 ghost use Rattle.form.specs.Theorem.{AcceptsTheWritten, ReadsBack, OneSheet};
 
 // What the elements of a sheet are.
@@ -16,11 +18,12 @@ pub enum Letter {
     R,
 }
 
-// Bytes are accepted exactly when a legal sheet is written so, and as that one; the answer says nothing.
-pub fn form_holds() -> u8
+// Bytes are accepted exactly when a legal sheet is written so, and as that one.
+pub fn form_holds() -> bool
     ensures accepts { λ _. ⌜ AcceptsTheWritten ⌝ }
     ensures back { λ _. ⌜ ReadsBack ⌝ }
     ensures one { λ _. ⌜ OneSheet ⌝ }
+    ensures answer { λ r. ⌜ r ≡ true ⌝ }
 {
-    0
+    true
 }

@@ -1,0 +1,3 @@
+// Surveys at work: steps, runs, notes, reports and lists of requests.
+#[cfg(test)]
+mod tests;
