@@ -39,7 +39,7 @@ marked-shown : (n : ℕ) (K : Elements) → n ≤ all-marks → marked (shown (c
 marked-shown n K small = fun-ext (λ i. ⊎-elim
     (λ (l : i < all-marks). shown-here (cut n K) blank i false l (omega (arith, blank-length)))
     (λ (l : all-marks ≤ i).
-      getD-past (shown (cut n K) blank) i false (omega (arith, blank-length, length-shown 0 (cut n K) blank)) ∙ sym (ap (λ b. b && K i) (le-ltb i n (omega arith))))
+    getD-past (shown (cut n K) blank) i false (omega (arith, blank-length, length-shown 0 (cut n K) blank)) ∙ sym (ap (λ b. b && K i) (le-ltb i n (omega arith))))
     (cases-lt i all-marks))
 
 module _ (m : Meaning) (small : m .size ≤ all-marks) (named : ℕ → List ℕ) (s : State) where
@@ -69,20 +69,20 @@ module _ (m m₀ m₁ : Meaning) (same₀ : m₀ ≡ m) (same₁ : m₁ ≡ m) (
       let here : origin ≡ quota-origin (o .source .supply) = eo ∙ ap (λ (t : Source). quota-origin (t .supply)) (e₂ ∙ ap (λ (x : Outcome). x .source) a) in
       let rr : Result (Unit {0}) Refusal = run-reply (σ .supply .depth) (quota-origin (o .source .supply)) (o .answer) in
       let answer : run-reply (σ₀ .supply .depth) origin (run m₀ s₀ σ₀ .answer) ≡ rr =
-          ap (λ (t : Source). run-reply (t .supply .depth) origin (run m₀ s₀ σ₀ .answer)) eσ ∙
-          (ap (λ (f : ℕ → ℕ). run-reply (σ .supply .depth) f (run m₀ s₀ σ₀ .answer)) here ∙
-          ap (λ (x : Outcome). run-reply (σ .supply .depth) (quota-origin (o .source .supply)) (x .answer)) a) in
+      ap (λ (t : Source). run-reply (t .supply .depth) origin (run m₀ s₀ σ₀ .answer)) eσ ∙
+      (ap (λ (f : ℕ → ℕ). run-reply (σ .supply .depth) f (run m₀ s₀ σ₀ .answer)) here ∙
+      ap (λ (x : Outcome). run-reply (σ .supply .depth) (quota-origin (o .source .supply)) (x .answer)) a) in
       ap (λ k. decided-text k s₁ named r (marked marks)) en ∙
       (by-run m (omega arith) named s₁ rr marks r
-        (er ∙ (ap (λ (x : Result (Unit {0}) Refusal). and-then x (report-reply m₁ s₁ blank .answer)) answer ∙ ap (λ (x : Meaning). and-then rr (report-reply x s₁ blank .answer)) same₁))
-        (λ h. ek h ∙ ap (λ (x : Meaning). report-reply x s₁ blank .marks) same₁) ∙
+      (er ∙ (ap (λ (x : Result (Unit {0}) Refusal). and-then x (report-reply m₁ s₁ blank .answer)) answer ∙ ap (λ (x : Meaning). and-then rr (report-reply x s₁ blank .answer)) same₁))
+      (λ h. ek h ∙ ap (λ (x : Meaning). report-reply x s₁ blank .marks) same₁) ∙
       ap (λ (s : State). by-answer (m .size) s named rr (report m s)) (e₁ ∙ ap (λ (x : Outcome). x .survey) a))
 
 -- the first n entries of the first n entries
 pub relisted : (n k : ℕ) (t es : List Value) → sheet t ≡ listed k es → k ≡ n → listed n t ≡ listed n es
 relisted n k t es e q = fun-ext (λ i. ⊎-elim
     (λ (l : i < n).
-      ap (λ (f : ℕ → Entry). cond (ltb i n) (f i) (Known 0)) e ∙ (ap (λ j. cond (ltb i n) (listed j es i) (Known 0)) q ∙
-      (cond-true (ltb i n) (listed n es i) (Known 0) (lt-ltb i n l))))
+    ap (λ (f : ℕ → Entry). cond (ltb i n) (f i) (Known 0)) e ∙ (ap (λ j. cond (ltb i n) (listed j es i) (Known 0)) q ∙
+    (cond-true (ltb i n) (listed n es i) (Known 0) (lt-ltb i n l))))
     (λ (l : n ≤ i). cond-false (ltb i n) (sheet t i) (Known 0) (le-ltb i n l) ∙ sym (cond-false (ltb i n) (sheet es i) (Known 0) (le-ltb i n l)))
     (cases-lt i n))

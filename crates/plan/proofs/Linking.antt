@@ -53,8 +53,8 @@ module _ {X Y P T : Type 0} (place : X → P) (tail : Y → T) (b : HeldBody X Y
   entries-link n e = fun-ext (λ i. ⊎-elim
       (λ (l : i < n). cond-true (ltb i n) (sheet (map (λ e. e .entry) (vec-items (b .elements))) i) (Known 0) (lt-ltb i n l) ∙ held-getD (vec-items (b .elements)) i tail)
       (λ (l : n ≤ i).
-        cond-false (ltb i n) (sheet (map (λ e. e .entry) (vec-items (b .elements))) i) (Known 0) (le-ltb i n l) ∙
-        (ap held (sym (getD-past (map (λ e. e .entry) (vec-items (b .elements))) i (KnownValue 0) (omega (arith, length-map (vec-items (b .elements)) (λ e. e .entry))))) ∙ held-getD (vec-items (b .elements)) i tail))
+      cond-false (ltb i n) (sheet (map (λ e. e .entry) (vec-items (b .elements))) i) (Known 0) (le-ltb i n l) ∙
+      (ap held (sym (getD-past (map (λ e. e .entry) (vec-items (b .elements))) i (KnownValue 0) (omega (arith, length-map (vec-items (b .elements)) (λ e. e .entry))))) ∙ held-getD (vec-items (b .elements)) i tail))
       (cases-lt i n))
 
   -- the recorded prices

@@ -17,6 +17,7 @@ use std::alloc::Global;
 // A value that is taken from a line.
 pub trait Taking<'a> {
     type Line: Drop;
+
     type Value: Drop;
 
     ghost value: { Self·Line → Self·Value };
@@ -46,6 +47,7 @@ pub struct RouteTail;
 
 pub impl<'a> Taking<'a> for RouteTail as RouteTailTaking {
     type Line = ElementLine<Route>;
+
     type Value = Route;
 
     ghost value = { tail-of };
@@ -61,6 +63,7 @@ pub struct LotTail;
 
 pub impl<'a> Taking<'a> for LotTail as LotTailTaking {
     type Line = ElementLine<Place>;
+
     type Value = Place;
 
     ghost value = { tail-of };
@@ -76,6 +79,7 @@ pub struct LotCap;
 
 pub impl<'a> Taking<'a> for LotCap as LotCapTaking {
     type Line = Lot<'a>;
+
     type Value = u32;
 
     ghost value = { cap-of };
@@ -104,6 +108,7 @@ pub struct WordTail;
 
 pub impl<'a> Taking<'a> for WordTail as WordTailTaking {
     type Line = ElementLine<&'a [u8]>;
+
     type Value = u64;
 
     ghost value = { number-of };

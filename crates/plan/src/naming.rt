@@ -14,6 +14,7 @@ use writer::Writer;
 // What stands behind the ends of a kept element, where the first section of the sheet has these lines.
 pub trait Naming<'a> {
     type Place: Drop;
+
     type Tail: Drop;
 
     ghost named: { List Self·Place → Self·Tail → List ℕ };
@@ -40,6 +41,7 @@ pub struct RouteNaming;
 
 pub impl<'a> Naming<'a> for RouteNaming as RouteNamingNaming {
     type Place = &'a [u8];
+
     type Tail = Route;
 
     ghost named = { route-text };
@@ -68,6 +70,7 @@ pub struct LotNaming;
 
 pub impl<'a> Naming<'a> for LotNaming as LotNamingNaming {
     type Place = Lot<'a>;
+
     type Tail = Place;
 
     ghost named = { lot-text };
@@ -83,6 +86,7 @@ pub struct WordNaming;
 
 pub impl<'a> Naming<'a> for WordNaming as WordNamingNaming {
     type Place = &'a [u8];
+
     type Tail = &'a [u8];
 
     ghost named = { word-text };

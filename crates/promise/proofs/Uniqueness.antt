@@ -41,11 +41,13 @@ elements-push (x ∷ xs) l i h = elim (or-cases (eqb i (x .element)) (elements-o
 apart-push : (ls : List Line) (l : Line) → Apart ls → elements-of ls (l .element) ≡ false → Apart (ls ++ (l ∷ []))
 apart-push [] l a n = (refl, tt)
 apart-push (x ∷ xs) l a n =
-    let p = or-parts (eqb (l .element) (x .element)) (elements-of xs (l .element)) n in
-    (none-false _ (λ h. elim (elements-push xs l (x .element) h) [
-      | inl q ↦ eqb-false (l .element) (x .element) (p .0) (sym q)
-      | inr q ↦ both-ways (elements-of xs (x .element)) (a .0) q
-    ]), apart-push xs l (a .1) (p .1))
+    let p = or-parts (eqb (l .element) (x .element)) (elements-of xs (l .element)) n in (
+      none-false _ (λ h. elim (elements-push xs l (x .element) h) [
+        | inl q ↦ eqb-false (l .element) (x .element) (p .0) (sym q)
+        | inr q ↦ both-ways (elements-of xs (x .element)) (a .0) q
+      ]),
+      apart-push xs l (a .1) (p .1),
+    )
 
 separate-paid : (s : State) (e p : ℕ) (q : Option ℕ) → Separate s → inside (s .entries e) p ≡ true → Separate (paid-for s e p q)
 separate-paid s e p q h i = record {

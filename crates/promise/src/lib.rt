@@ -6,8 +6,7 @@ ghost use Rattle.promise.specs.Claims.{Promises};
 // The theorems.
 fn prove_promise()
     ensures { λ _. ⌜ Promises ⌝ }
-{
-}
+{}
 
 // What holds of every survey, whatever the matroid, the sheet and the calls: it is named by the contract.
 pub fn promise_holds() -> bool

@@ -3,7 +3,6 @@ mod carrying;
 mod conducting;
 mod lists;
 
-
 pub use carrying::Request;
 pub use carrying::carry_out;
 pub use conducting::Account;

@@ -29,11 +29,11 @@ pub use values::ByKind;
 pub use values::ElementLine;
 pub use values::Lot;
 pub use values::Sheet;
+use writer::Writer;
 pub use writing::put_field;
 pub use writing::put_number;
 pub use writing::put_price;
 pub use writing::put_word;
-use writer::Writer;
 
 // The most bytes of a sheet.
 const MOST_BYTES: usize = 65_536;

@@ -23,8 +23,8 @@ pub filled-more : (es t : List Value) (i : ℕ) (x : Value) → i < length t →
 filled-more es t i x l e f k =
     ⊎-elim
     (λ (q : k ≡ i).
-      let h : ltb k (i + 1) ≡ true = lt-ltb k (i + 1) (omega arith) in
-      ap (λ j. held (getD (set t i x) j (KnownValue 0))) q ∙ (ap held (getD-set-same t i x (KnownValue 0) l ∙ e) ∙ (ap (sheet es) (sym q) ∙ sym (cond-true (ltb k (i + 1)) (sheet es k) (Known 0) h))))
+    let h : ltb k (i + 1) ≡ true = lt-ltb k (i + 1) (omega arith) in
+    ap (λ j. held (getD (set t i x) j (KnownValue 0))) q ∙ (ap held (getD-set-same t i x (KnownValue 0) l ∙ e) ∙ (ap (sheet es) (sym q) ∙ sym (cond-true (ltb k (i + 1)) (sheet es k) (Known 0) h))))
     (λ (q : k ≡ i → ⊥). ap held (getD-set-other t i k x (KnownValue 0) q) ∙ (f k ∙ same k q))
     (cases-eq k i)
   where
@@ -42,9 +42,9 @@ filled-all es t i n e f = fun-ext (λ k. f k ∙ same k)
     same k = ⊎-elim
         (λ (h : k < i). cond-true (ltb k i) (sheet es k) (Known 0) (lt-ltb k i h) ∙ sym (cond-true (ltb k n) (sheet es k) (Known 0) (lt-ltb k n (omega arith))))
         (λ (h : i ≤ k). cond-false (ltb k i) (sheet es k) (Known 0) (le-ltb k i h) ∙ ⊎-elim
-          (λ (j : k < n). sym (cond-true (ltb k n) (sheet es k) (Known 0) (lt-ltb k n j) ∙ ap held (getD-past es k (KnownValue 0) (omega arith))))
-          (λ (j : n ≤ k). sym (cond-false (ltb k n) (sheet es k) (Known 0) (le-ltb k n j)))
-          (cases-lt k n))
+        (λ (j : k < n). sym (cond-true (ltb k n) (sheet es k) (Known 0) (lt-ltb k n j) ∙ ap held (getD-past es k (KnownValue 0) (omega arith))))
+        (λ (j : n ≤ k). sym (cond-false (ltb k n) (sheet es k) (Known 0) (le-ltb k n j)))
+        (cases-lt k n))
         (cases-lt k i)
 
 -- nothing of the list is there yet

@@ -46,10 +46,10 @@ knowns-set (x ∷ xs) (suc e) p l h = omega (arith, knowns-set xs e p (omega ari
 pub sheet-set : (es : List Value) (e p : ℕ) → e < length es → sheet (set es e (KnownValue p)) ≡ priced (sheet es) e p
 sheet-set es e p l =
     fun-ext (λ i. ⊎-elim
-      (λ (q : i ≡ e). subst (λ k. held (getD (set es e (KnownValue p)) k (KnownValue 0)) ≡ cond (eqb k e) (Known p) (sheet es k)) (sym q)
-        (ap held (getD-set-same es e (KnownValue p) (KnownValue 0) l) ∙ sym (cond-true (eqb e e) (Known p) (sheet es e) (eq-eqb e e refl))))
-      (λ (q : i ≡ e → ⊥). ap held (getD-set-other es e i (KnownValue p) (KnownValue 0) q) ∙ sym (cond-false (eqb i e) (Known p) (sheet es i) (ne-eqb i e q)))
-      (cases-eq i e))
+    (λ (q : i ≡ e). subst (λ k. held (getD (set es e (KnownValue p)) k (KnownValue 0)) ≡ cond (eqb k e) (Known p) (sheet es k)) (sym q)
+    (ap held (getD-set-same es e (KnownValue p) (KnownValue 0) l) ∙ sym (cond-true (eqb e e) (Known p) (sheet es e) (eq-eqb e e refl))))
+    (λ (q : i ≡ e → ⊥). ap held (getD-set-other es e i (KnownValue p) (KnownValue 0) q) ∙ sym (cond-false (eqb i e) (Known p) (sheet es i) (ne-eqb i e q)))
+    (cases-eq i e))
 
 -- there is room for one more line, and each line still stands for a known entry
 module _ (es : List Value) (u e p : ℕ) (r : u ≤ knowns es) (l : e < length es) (h : inside (sheet es e) p ≡ true) where

@@ -28,7 +28,11 @@ fn due_element(tables: &Tables) -> Option<Element>
         return None;
     };
     let entry = tables.entries[element as usize];
-    if entry.is_known() { None } else { Some(element) }
+    if entry.is_known() {
+        None
+    } else {
+        Some(element)
+    }
 }
 
 // The first element of the pair in an open circuit, and the second where that is no known one.
@@ -44,10 +48,7 @@ fn pair_to_price(
 }
 
 // The element of the next price call, and the one that is pending after it; none where the walk is settled.
-fn next_to_price<M: Matroid>(
-    matroid: &M,
-    tables: &Tables,
-) -> Option<(Element, Option<Element>)>
+fn next_to_price<M: Matroid>(matroid: &M, tables: &Tables) -> Option<(Element, Option<Element>)>
     ensures { λ r. ⌜ r ≡ asked (next (M·Matroid .meaning (now (matroid .entry))) (state (now (tables .entry)))) ⌝ }
 {
     match walk_through(matroid, &tables.entries) {

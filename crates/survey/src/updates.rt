@@ -1,6 +1,5 @@
 // What a price changes in the tables.
 ghost use mathlib.Core.Bool.{true};
-
 ghost use mathlib.Core.Path.{_≡_};
 ghost use Rattle.entry.specs.Entries.{inside};
 ghost use Rattle.entry.specs.Held.{sheet};

@@ -24,13 +24,13 @@ returns c small fed =
     let slice = c .as-slice .ensures .value in
     let m : Meaning = lots-of (vec-items (c .in-Continue-matroid .matroid .lots)) (vec-items (c .in-Continue-matroid .matroid .caps)) in
     let same : m ≡ lots-of (map tail-of es) (map cap-of (vec-items (b .places))) =
-        meant m (lots-of (vec-items (c .in-Continue-tails .tails)) (vec-items (c .in-Continue-caps .caps))) _ (refused 3 0 0) (c .in-Continue-matroid .ensures tt) (omega (arith, made .1, ap length slice)) ∙
-        (ap (λ ls. lots-of ls (vec-items (c .in-Continue-caps .caps))) (made .0 ∙ ap (map tail-of) slice) ∙
-        ap (lots-of (map tail-of es)) (caps .0 ∙ ap (map cap-of) (c .as-slice-2 .ensures .value))) in
+    meant m (lots-of (vec-items (c .in-Continue-tails .tails)) (vec-items (c .in-Continue-caps .caps))) _ (refused 3 0 0) (c .in-Continue-matroid .ensures tt) (omega (arith, made .1, ap length slice)) ∙
+    (ap (λ ls. lots-of ls (vec-items (c .in-Continue-caps .caps))) (made .0 ∙ ap (map tail-of) slice) ∙
+    ap (lots-of (map tail-of es)) (caps .0 ∙ ap (map cap-of) (c .as-slice-2 .ensures .value))) in
     c .plan-body .ensures fed ∙
     ap Ok (body-link lotOf itself b m _ (lot-text (vec-items (b .places))) (lot-name (map lotOf (vec-items (b .places))))
-      (same ∙
-        (ap (λ ls. lots-of ls (map cap-of (vec-items (b .places)))) (sym (map-twice (elementOf itself) (λ e. e .1) tail-of (λ e. refl) es)) ∙
-        ap (lots-of (map (λ e. e .1) (map (elementOf itself) es))) (sym (map-twice lotOf (λ l. l .1) cap-of (λ l. refl) (vec-items (b .places))))))
-      (ap (λ (x : Meaning). x .size) same ∙ length-map es tail-of)
-      (λ y. ap (λ names. ended (getD names y [])) (sym (map-twice lotOf (λ l. l .0) (λ l. lotOf l .0) (λ l. refl) (vec-items (b .places))))))
+    (same ∙
+    (ap (λ ls. lots-of ls (map cap-of (vec-items (b .places)))) (sym (map-twice (elementOf itself) (λ e. e .1) tail-of (λ e. refl) es)) ∙
+    ap (lots-of (map (λ e. e .1) (map (elementOf itself) es))) (sym (map-twice lotOf (λ l. l .1) cap-of (λ l. refl) (vec-items (b .places))))))
+    (ap (λ (x : Meaning). x .size) same ∙ length-map es tail-of)
+    (λ y. ap (λ names. ended (getD names y [])) (sym (map-twice lotOf (λ l. l .0) (λ l. lotOf l .0) (λ l. refl) (vec-items (b .places))))))

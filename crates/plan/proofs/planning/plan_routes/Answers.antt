@@ -22,8 +22,8 @@ returns c small fed =
     let slice = c .as-slice .ensures .value in
     let m : Meaning = routes-of (vec-items (c .in-Continue-matroid .matroid .routes)) in
     let same : m ≡ routes-of (map tail-of es) =
-        meant m (routes-of (vec-items (c .in-Continue-tails .tails))) _ (refused 3 0 0) (c .in-Continue-matroid .ensures tt) (omega (arith, made .1, ap length slice)) ∙
-        ap routes-of (made .0 ∙ ap (map tail-of) slice) in
+    meant m (routes-of (vec-items (c .in-Continue-tails .tails))) _ (refused 3 0 0) (c .in-Continue-matroid .ensures tt) (omega (arith, made .1, ap length slice)) ∙
+    ap routes-of (made .0 ∙ ap (map tail-of) slice) in
     c .plan-body .ensures fed ∙
     ap Ok (body-link bytes routeOf b m _ (route-text (vec-items (b .places))) (route-name (map bytes (vec-items (b .places))))
-      (same ∙ ap routes-of (sym (tails-link bytes routeOf b route-of tail-of (λ e. refl)))) (ap (λ (x : Meaning). x .size) same ∙ length-map es tail-of) (λ y. refl))
+    (same ∙ ap routes-of (sym (tails-link bytes routeOf b route-of tail-of (λ e. refl)))) (ap (λ (x : Meaning). x .size) same ∙ length-map es tail-of) (λ y. refl))

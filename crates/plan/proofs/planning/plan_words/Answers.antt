@@ -22,8 +22,8 @@ returns c small fed =
     let slice = c .as-slice .ensures .value in
     let m : Meaning = words-of (vec-items (c .in-Continue-matroid .matroid .words)) in
     let same : m ≡ words-of (map number-of es) =
-        meant m (words-of (vec-items (c .in-Continue-tails .tails))) _ (refused 3 0 0) (c .in-Continue-matroid .ensures tt) (omega (arith, made .1, ap length slice)) ∙
-        ap words-of (made .0 ∙ ap (map number-of) slice) in
+    meant m (words-of (vec-items (c .in-Continue-tails .tails))) _ (refused 3 0 0) (c .in-Continue-matroid .ensures tt) (omega (arith, made .1, ap length slice)) ∙
+    ap words-of (made .0 ∙ ap (map number-of) slice) in
     c .plan-body .ensures fed ∙
     ap Ok (body-link bytes wordOf b m _ (word-text (vec-items (b .places))) (word-name (map bytes (vec-items (b .places))))
-      (same ∙ ap words-of (sym (tails-link bytes wordOf b word-number number-of (λ e. refl)))) (ap (λ (x : Meaning). x .size) same ∙ length-map es number-of) (λ y. refl))
+    (same ∙ ap words-of (sym (tails-link bytes wordOf b word-number number-of (λ e. refl)))) (ap (λ (x : Meaning). x .size) same ∙ length-map es number-of) (λ y. refl))

@@ -25,11 +25,11 @@ returns g c =
     let σ : _≡_ {A = Source} (rationed (c .new-source .result .below .lines .now) (c .new-source .result .number)) (rationed (vec-items (b .recorded)) (b .allowance)) = ap (λ (l : List Line). rationed l (c .new-source .result .number)) (ap (λ s. s .lines .now) (c .new-source .ensures .below) ∙ lines) ∙ ap (λ k. rationed (vec-items (b .recorded)) k) (c .new-source .ensures .number) in
     written-out (c .finish .result) (c .in-Continue-writer .ensures tt .made)
     (wrote-as
-      (planned m (M (c .in-Continue-survey .survey .matroid)) (M (c .run-and-report-answer .last .survey .matroid)) same₀ same₁
-        (listed (m .size) (map (λ e. e .entry) (vec-items (b .elements)))) (state (c .in-Continue-survey .survey .tables)) (state (c .run-and-report-answer .last .survey .tables))
-        (rationed (vec-items (b .recorded)) (b .allowance)) _ _
-        (name-of (g .N·Naming .named (vec-items (b .places))) (vec-items (b .elements)))
-        _ (c .size-n .result) (c .run-and-report-answer .last .marks) (told (λ x. x) (c .run-and-report-answer .result))
-        (made .0 ∙ ap fresh (relisted (m .size) (c .size-n .result) (c .entries-of-entries .result) (map (λ e. e .entry) (vec-items (b .elements))) (c .entries-of-entries .ensures ∙ ap (λ es. listed (c .size-n .result) (map (λ e. e .entry) es)) (c .as-slice .ensures .value)) (c .size-n .ensures))) σ (h .survey) (h .source) refl (h .answer) (h .marks) (c .size-n .ensures) (omega arith))
-      (c .put-decided .ensures))
+    (planned m (M (c .in-Continue-survey .survey .matroid)) (M (c .run-and-report-answer .last .survey .matroid)) same₀ same₁
+    (listed (m .size) (map (λ e. e .entry) (vec-items (b .elements)))) (state (c .in-Continue-survey .survey .tables)) (state (c .run-and-report-answer .last .survey .tables))
+    (rationed (vec-items (b .recorded)) (b .allowance)) _ _
+    (name-of (g .N·Naming .named (vec-items (b .places))) (vec-items (b .elements)))
+    _ (c .size-n .result) (c .run-and-report-answer .last .marks) (told (λ x. x) (c .run-and-report-answer .result))
+    (made .0 ∙ ap fresh (relisted (m .size) (c .size-n .result) (c .entries-of-entries .result) (map (λ e. e .entry) (vec-items (b .elements))) (c .entries-of-entries .ensures ∙ ap (λ es. listed (c .size-n .result) (map (λ e. e .entry) es)) (c .as-slice .ensures .value)) (c .size-n .ensures))) σ (h .survey) (h .source) refl (h .answer) (h .marks) (c .size-n .ensures) (omega arith))
+    (c .put-decided .ensures))
     (c .finish .ensures)

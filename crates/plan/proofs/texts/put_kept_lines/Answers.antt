@@ -19,10 +19,10 @@ loop-i-again g c =
     in elim (c .if-marks-i .came) [
       | then-marks-i w ↦
           subst (λ (z : Writer). Wrote (c .args .writer .now) (each-kept (c .loop-i .i + 1) K text) z) (sym (w .writer-is))
-            (wrote-as (each-in (c .loop-i .i) K text (w .if-marks-i .taken)) (wrote-both (c .loop-i .inv) (w .put-kept-line .ensures)))
+          (wrote-as (each-in (c .loop-i .i) K text (w .if-marks-i .taken)) (wrote-both (c .loop-i .inv) (w .put-kept-line .ensures)))
       | else-marks-i w ↦
           subst (λ (z : Writer). Wrote (c .args .writer .now) (each-kept (c .loop-i .i + 1) K text) z) (sym (w .writer-is))
-            (wrote-as (each-out (c .loop-i .i) K text (w .if-marks-i .left)) (c .loop-i .inv))
+          (wrote-as (each-out (c .loop-i .i) K text (w .if-marks-i .left)) (c .loop-i .inv))
     ]
 
 pub returns : need.returns

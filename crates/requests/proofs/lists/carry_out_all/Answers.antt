@@ -16,14 +16,15 @@ loop-i-again g c =
     let k = c .loop-i .inv .0 in
     let t = state (c .loop-i .survey .tables) in
     let q = getD (c .loop-i .requests) (c .loop-i .i) (c .index-requests-i .result) in
-    let q′ = c .carry-out-answer .last .request in
-    (h .matroid ∙ k,
-    carried-more (g .S·Source .meaning) (g .S·Source .keeps) (g .S·Source .origin) (g .M·Matroid .meaning (c .args .survey .now .matroid)) (state (c .args .survey .now .tables)) (c .args .requests .now)
-    (c .loop-i .i) t (state (c .carry-out-answer .last .survey .tables)) (c .loop-i .requests) (told (λ x. x) (c .loop-i .answer)) (told (λ x. x) (c .carry-out-answer .result)) q q′
-    (c .loop-i .inv .1) (omega arith) (nth-getD (c .loop-i .requests) (c .loop-i .i) (c .index-requests-i .result) (omega arith))
-    (h .survey ∙ ap (λ x. did (g .M·Matroid .meaning x) t (call-of (g .S·Source .meaning) (g .S·Source .keeps) q)) k)
-    (h .request ∙ ap (λ x. spent-call (g .M·Matroid .meaning x) t (call-of (g .S·Source .meaning) (g .S·Source .keeps) q)) k)
-    (h .answer ∙ ap (λ x. reply-to (g .S·Source .meaning) (g .S·Source .keeps) (g .S·Source .origin) (g .M·Matroid .meaning x) t q q′) k))
+    let q′ = c .carry-out-answer .last .request in (
+      h .matroid ∙ k,
+      carried-more (g .S·Source .meaning) (g .S·Source .keeps) (g .S·Source .origin) (g .M·Matroid .meaning (c .args .survey .now .matroid)) (state (c .args .survey .now .tables)) (c .args .requests .now)
+          (c .loop-i .i) t (state (c .carry-out-answer .last .survey .tables)) (c .loop-i .requests) (told (λ x. x) (c .loop-i .answer)) (told (λ x. x) (c .carry-out-answer .result)) q q′
+          (c .loop-i .inv .1) (omega arith) (nth-getD (c .loop-i .requests) (c .loop-i .i) (c .index-requests-i .result) (omega arith))
+          (h .survey ∙ ap (λ x. did (g .M·Matroid .meaning x) t (call-of (g .S·Source .meaning) (g .S·Source .keeps) q)) k)
+          (h .request ∙ ap (λ x. spent-call (g .M·Matroid .meaning x) t (call-of (g .S·Source .meaning) (g .S·Source .keeps) q)) k)
+          (h .answer ∙ ap (λ x. reply-to (g .S·Source .meaning) (g .S·Source .keeps) (g .S·Source .origin) (g .M·Matroid .meaning x) t q q′) k),
+    )
 
 pub returns : need.returns
 returns g c =

@@ -19,10 +19,11 @@ loop-paid-less g c =
 
 pub loop-paid-again : need.loop-paid-again
 loop-paid-again g c =
-    let h = c .in-Ok .ensures tt in
-    (runs-more (g .M·Matroid .meaning (c .args .matroid .now)) (g .M·Matroid·met .laws (c .args .matroid .now)) _ (state (c .loop-paid .tables)) (sheet-proper (c .loop-paid .tables .entries)) (sourced (g .S·Source .meaning) (g .S·Source .keeps) (c .loop-paid .source))
-    _ _ (h .survey) (h .source) _ _ (c .loop-paid .inv .0) (c .in-Some .field-0) (ap (λ x. Ok x) (sym (c .in-Some .is)) ∙ h .answer),
-    depth-step (g .M·Matroid .meaning (c .args .matroid .now)) (state (c .loop-paid .tables)) (sourced (g .S·Source .meaning) (g .S·Source .keeps) (c .loop-paid .source)) (sourced (g .S·Source .meaning) (g .S·Source .keeps) (c .take-step .last .source)) (h .source) ∙ c .loop-paid .inv .1)
+    let h = c .in-Ok .ensures tt in (
+      runs-more (g .M·Matroid .meaning (c .args .matroid .now)) (g .M·Matroid·met .laws (c .args .matroid .now)) _ (state (c .loop-paid .tables)) (sheet-proper (c .loop-paid .tables .entries)) (sourced (g .S·Source .meaning) (g .S·Source .keeps) (c .loop-paid .source))
+          _ _ (h .survey) (h .source) _ _ (c .loop-paid .inv .0) (c .in-Some .field-0) (ap (λ x. Ok x) (sym (c .in-Some .is)) ∙ h .answer),
+      depth-step (g .M·Matroid .meaning (c .args .matroid .now)) (state (c .loop-paid .tables)) (sourced (g .S·Source .meaning) (g .S·Source .keeps) (c .loop-paid .source)) (sourced (g .S·Source .meaning) (g .S·Source .keeps) (c .take-step .last .source)) (h .source) ∙ c .loop-paid .inv .1,
+    )
 
 pub returns-in-None : need.returns-in-None
 returns-in-None g c =

@@ -13,8 +13,10 @@ push-reserved-requires c κs =
 
 pub ghost-self : need.ghost-self
 ghost-self c =
-    let t = c .args .self .now in
-    (length-set _ _ _ ∙ t .places, (
-      omega (arith, t .rows, c .push-reserved .ensures .capacity),
-      (omega (arith, room-kept (t .entries) (vec-len (t .lines)) (c .args .element) (c .args .price) (t .room) (omega (arith, t .places)) (c .pre), c .push-reserved .ensures .len), tt),
-    ))
+    let t = c .args .self .now in (
+      length-set _ _ _ ∙ t .places,
+      (
+        omega (arith, t .rows, c .push-reserved .ensures .capacity),
+        (omega (arith, room-kept (t .entries) (vec-len (t .lines)) (c .args .element) (c .args .price) (t .room) (omega (arith, t .places)) (c .pre), c .push-reserved .ensures .len), tt),
+      ),
+    )
