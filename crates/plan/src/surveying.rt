@@ -7,9 +7,7 @@ ghost use Rattle.std.specs.declared.result.Result.the-variants.{Ok};
 ghost use Rattle.entry.specs.Held.{sheet};
 ghost use Rattle.fault.specs.Refusals.{starved, told};
 ghost use Rattle.matroid.specs.Questions.{marked};
-ghost use Rattle.promise.specs.Replies.{report-reply, run-reply};
-ghost use Rattle.promise.specs.Surveys.{run};
-ghost use Rattle.survey.specs.States.{listed, sourced, state};
+ghost use Rattle.survey.specs.States.{listed, state};
 ghost use Rattle.writer.specs.Written.{Wrote};
 ghost use Rattle.plan.specs.Names.{name-of};
 ghost use Rattle.plan.specs.Texts.{and-then, decided-text, plan-of, rationed};
@@ -23,11 +21,12 @@ use fault::Fault;
 use layers::Quota;
 use layers::QuotaSource;
 use matroid::Matroid;
+use requests::Request;
+use requests::conduct;
 use sheet::Body;
 use sheet::ElementLine;
 use source::Record;
 use source::RecordSource;
-use source::Source;
 use std::alloc::Global;
 use survey::Survey;
 use writer::Writer;
@@ -46,20 +45,12 @@ fn entries_of<T: Drop>(elements: &[ElementLine<T>], n: Element) -> [Entry; MARKS
     table
 }
 
-// Runs the survey, and shows the base that it comes to.
-fn run_and_report<M: Matroid + Drop, S: Source>(
-    survey: &mut Survey<M>,
-    source: &mut S,
-    marks: &mut [bool],
-) -> Result<(), Fault>
-    ensures matroid { λ _. ⌜ now (survey .exit) .matroid ≡ now (survey .entry) .matroid ⌝ }
-    ensures survey { λ _. ⌜ state (now (survey .exit) .tables) ≡ run (M·Matroid .meaning (now (survey .entry) .matroid)) (state (now (survey .entry) .tables)) (sourced (S·Source .meaning) (S·Source .keeps) (now (source .entry))) .survey ⌝ }
-    ensures source { λ _. ⌜ sourced (S·Source .meaning) (S·Source .keeps) (now (source .exit)) ≡ run (M·Matroid .meaning (now (survey .entry) .matroid)) (state (now (survey .entry) .tables)) (sourced (S·Source .meaning) (S·Source .keeps) (now (source .entry))) .source ⌝ }
-    ensures answer { λ r. ⌜ told (λ x. x) r ≡ and-then (run-reply (S·Source .meaning (now (source .entry)) .depth) (S·Source .origin (now (source .exit))) (run (M·Matroid .meaning (now (survey .entry) .matroid)) (state (now (survey .entry) .tables)) (sourced (S·Source .meaning) (S·Source .keeps) (now (source .entry))) .answer)) (report-reply (M·Matroid .meaning (now (survey .exit) .matroid)) (state (now (survey .exit) .tables)) (now (marks .entry)) .answer) ⌝ }
-    ensures marks { λ r. ⌜ (told (λ x. x) r ≡ Ok tt → now (marks .exit) ≡ report-reply (M·Matroid .meaning (now (survey .exit) .matroid)) (state (now (survey .exit) .tables)) (now (marks .entry)) .marks) ⌝ }
+// The first answer where it is a refusal, and else the second.
+fn both(first: Result<(), Fault>, second: Result<(), Fault>) -> Result<(), Fault>
+    ensures { λ r. ⌜ told (λ x. x) r ≡ and-then (told (λ x. x) first) (told (λ x. x) second) ⌝ }
 {
-    survey.run(source)?;
-    survey.report(marks)
+    first?;
+    second
 }
 
 // What the survey came to.
@@ -96,11 +87,12 @@ pub fn plan_body<'a, N: Naming<'a>, M: Matroid + Drop>(
 {
     let n = matroid.size();
     let entries = entries_of(body.elements.as_slice(), n);
-    let mut source = Quota::new(Record::new(body.recorded.as_slice()), body.allowance);
-    let mut survey = Survey::new(heap, matroid, &entries)?;
-    let mut writer = Writer::with_room(heap, MOST_BYTES)?;
+    let source = Quota::new(Record::new(body.recorded.as_slice()), body.allowance);
+    let mut requests = [Request::Run(source)];
     let mut marks = [false; MARKS];
-    let answer = run_and_report(&mut survey, &mut source, &mut marks);
-    put_decided::<N, M>(&mut writer, &survey, body, n, answer, &marks);
+    let account = conduct(heap, matroid, &entries, &mut requests, &mut marks)?;
+    let answer = both(account.answer, account.report);
+    let mut writer = Writer::with_room(heap, MOST_BYTES)?;
+    put_decided::<N, M>(&mut writer, &account.survey, body, n, answer, &marks);
     writer.finish()
 }
