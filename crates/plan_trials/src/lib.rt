@@ -1,0 +1,3 @@
+// Trials of plans, from bytes to bytes.
+#[cfg(test)]
+mod tests;
