@@ -1,11 +1,14 @@
 -- What a run and a report come to is the plan of the survey. Assumes nothing.
 use mathlib.Core.Path.{_≡_, refl, sym, ap, _∙_, subst, fun-ext}
 use mathlib.Core.Bool.{Bool, true, false, cond, _&&_}
-use mathlib.Core.List.{List}
+use mathlib.Core.List.{List, [], _++_}
 use mathlib.Core.Logic.{⊎-elim}
-use Prim.Native.Nat.{ℕ, _<_, _≤_}
+use Prim.Native.Nat.{ℕ, zero, suc, _<_, _≤_}
 use native.Mathlib.Omega.{arith}
+use lib.Chars.{codes}
 use lib.Dec.{ltb}
+use Rattle.std.specs.Written.{decimal}
+use Rattle.form.specs.Sheets.{ended, spaced}
 use lib.ListN.{length, replicate, length-replicate}
 use Rattle.std.proofs.shelf.Tests.{cases-lt, cond-true, cond-false, lt-ltb, le-ltb}
 use Rattle.std.proofs.shelf.Lists.{getD-past}
@@ -14,18 +17,19 @@ use Rattle.std.specs.declared.option.Option.the-variants.{Some, None}
 use Rattle.std.specs.declared.result.Result.{Result}
 use Rattle.std.specs.declared.result.Result.the-variants.{Ok, Err}
 use Rattle.element.specs.Marks.{all-marks}
-use Rattle.entry.specs.Entries.{Entry, Known}
+use Rattle.entry.specs.Entries.{Entry, Known, high, low}
 use Rattle.entry.specs.Held.{sheet}
 use Rattle.entry.specs.declared.Entry.{Entry as Value}
 use Rattle.survey.specs.States.{listed}
 use Rattle.fault.specs.Refusals.{Refusal, refused}
-use Rattle.matroid.specs.Sets.{Elements, cut}
+use Rattle.matroid.specs.Sets.{Elements, count, cut, sum}
 use Rattle.matroid.specs.Matroids.{Meaning}
 use Rattle.matroid.specs.Questions.{marked, shown}
+use Rattle.matroid.proofs.Counts.{count-same, sum-same}
 use Rattle.matroid.proofs.Marks.{length-shown, shown-here}
 use Rattle.promise.specs.Surveys.{Source, State, Outcome, fresh, run, report}
 use Rattle.promise.specs.Replies.{Reply, showing, run-reply, report-reply}
-use Rattle.plan.specs.Texts.{finished-text, stopped-text, decided-text, and-then, quota-origin, by-answer, plan-of}
+use Rattle.plan.specs.Texts.{each-kept, kept-line, ledger-text, total-text, finished-text, stopped-text, decided-text, and-then, quota-origin, by-answer, plan-of}
 
 -- marks of which none is set
 abbrev pub blank : List Bool
@@ -42,6 +46,23 @@ marked-shown n K small = fun-ext (λ i. ⊎-elim
     getD-past (shown (cut n K) blank) i false (omega (arith, blank-length, length-shown 0 (cut n K) blank)) ∙ sym (ap (λ b. b && K i) (le-ltb i n (omega arith))))
     (cases-lt i all-marks))
 
+-- what is written of a set goes by its members below n
+same-each : (n : ℕ) (A B : Elements) (text : ℕ → List ℕ) → ((i : ℕ) → i < n → A i ≡ B i) → each-kept n A text ≡ each-kept n B text
+same-each zero A B text e = refl
+same-each (suc n) A B text e =
+    ap (λ t. t ++ cond (A n) (text n) []) (same-each n A B text (λ i l. e i (omega arith))) ∙ ap (λ b. each-kept n B text ++ cond b (text n) []) (e n (omega arith))
+
+same-finished : (n : ℕ) (s : State) (named : ℕ → List ℕ) (A B : Elements) → ((i : ℕ) → i < n → A i ≡ B i) → finished-text n s named A ≡ finished-text n s named B
+same-finished n s named A B e =
+    ap (λ c. text c (each-kept n A (kept-line (s .entries) named)) (sum n (λ i. low (s .entries i)) A) (sum n (λ i. high (s .entries i)) A)) (count-same n A B e) ∙
+    (ap (λ t. text (count n B) t (sum n (λ i. low (s .entries i)) A) (sum n (λ i. high (s .entries i)) A)) (same-each n A B (kept-line (s .entries) named) e) ∙
+    (ap (λ k. text (count n B) (each-kept n B (kept-line (s .entries) named)) k (sum n (λ i. high (s .entries i)) A)) (sum-same n (λ i. low (s .entries i)) (λ i. low (s .entries i)) A B e (λ i l. refl)) ∙
+    ap (λ k. text (count n B) (each-kept n B (kept-line (s .entries) named)) (sum n (λ i. low (s .entries i)) B) k) (sum-same n (λ i. high (s .entries i)) (λ i. high (s .entries i)) A B e (λ i l. refl))))
+  where
+    text : ℕ → List ℕ → ℕ → ℕ → List ℕ
+    text c lines lows highs =
+        ended (codes "finished") ++ (ledger-text (s .ledger) ++ (ended (decimal c) ++ (lines ++ (spaced (codes "total") ++ (spaced (total-text lows) ++ ended (total-text highs))))))
+
 module _ (m : Meaning) (small : m .size ≤ all-marks) (named : ℕ → List ℕ) (s : State) where
   roomy : report-reply m s blank ≡ showing (m .size) (report m s) blank
   roomy = refl
@@ -51,7 +72,8 @@ module _ (m : Meaning) (small : m .size ≤ all-marks) (named : ℕ → List ℕ
   by-option None marks r e k = ap (λ (x : Result (Unit {0}) Refusal). decided-text (m .size) s named x (marked marks)) e
   by-option (Some K) marks r e k =
       ap (λ (x : Result (Unit {0}) Refusal). decided-text (m .size) s named x (marked marks)) e ∙
-      ap (λ (L : Elements). finished-text (m .size) s named L) (ap marked (k e) ∙ marked-shown (m .size) K small)
+      (ap (λ (L : Elements). finished-text (m .size) s named L) (ap marked (k e) ∙ marked-shown (m .size) K small) ∙
+      same-finished (m .size) s named (cut (m .size) K) K (λ i l. ap (λ b. b && K i) (lt-ltb i (m .size) l)))
 
   by-run : (rr : Result (Unit {0}) Refusal) (marks : List Bool) (r : Result (Unit {0}) Refusal) → r ≡ and-then rr (report-reply m s blank .answer) → (r ≡ Ok tt → marks ≡ report-reply m s blank .marks)
       → decided-text (m .size) s named r (marked marks) ≡ by-answer (m .size) s named rr (report m s)

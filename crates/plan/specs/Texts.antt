@@ -12,7 +12,7 @@ use Rattle.std.specs.declared.result.Result.the-variants.{Ok, Err}
 use Rattle.element.specs.declared.Line.{Line}
 use Rattle.fault.specs.Refusals.{Refusal, refused}
 use Rattle.entry.specs.Entries.{Entry, low, high}
-use Rattle.matroid.specs.Sets.{Elements, count, cut, sum}
+use Rattle.matroid.specs.Sets.{Elements, count, sum}
 use Rattle.matroid.specs.Matroids.{Meaning}
 use Rattle.source.specs.Supplies.{Supply, exhausted, plain}
 use Rattle.source.specs.Records.{recorded}
@@ -76,7 +76,7 @@ rationed ls n = record { supply = limited (plain (recorded ls)) n; keeps = λ e.
 -- by the answer of a run, and the base that is settled after it
 abbrev pub by-answer : ℕ → State → (ℕ → List ℕ) → Result (Unit {0}) Refusal → Option Elements → List ℕ
 by-answer n s named (Err f) o = stopped-text f s
-by-answer n s named (Ok u) (Some K) = finished-text n s named (cut n K)
+by-answer n s named (Ok u) (Some K) = finished-text n s named K
 by-answer n s named (Ok u) None = stopped-text (refused 13 0 0) s
 
 -- the plan of the outcome of a run

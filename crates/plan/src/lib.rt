@@ -5,7 +5,7 @@ ghost use Rattle.std.specs.Of.Vec.{vec-items};
 ghost use Rattle.std.specs.declared.result.Result.the-variants.{Ok};
 ghost use Rattle.fault.specs.Refusals.{refusal, starved, told};
 ghost use Rattle.plan.specs.Plans.{plan-bytes, refused-text};
-ghost use Rattle.plan.specs.Promises.{Kept};
+ghost use Rattle.plan.specs.Promises.{Kept, Tells};
 
 mod gathering;
 mod naming;
@@ -38,6 +38,7 @@ fn refused_bytes(heap: Global, fault: Fault) -> Result<Vec<u8>, Fault>
 pub fn plan(heap: Global, bytes: &[u8]) -> Result<Vec<u8>, Fault>
     ensures plan { λ r. ⌜ (starved r ≡ false → told vec-items r ≡ Ok (plan-bytes (now (bytes .entry)))) ⌝ }
     ensures promise { λ _. ⌜ Kept (now (bytes .entry)) ⌝ }
+    ensures tells { λ _. ⌜ Tells (now (bytes .entry)) ⌝ }
 {
     match read(heap, bytes) {
         Ok(sheet) => plan_sheet(heap, &sheet),
