@@ -112,10 +112,10 @@ const RECORDS: [Case; 17] = [
     ("routes 0\n0\n0\n0\n\n", 7, 5),
 ];
 // A number, a place and a depth.
-pub type Refusal = (u8, u32, u8);
+pub(crate) type Refusal = (u8, u32, u8);
 
 // Why the bytes are refused, or none where they are a sheet.
-pub fn refusal(heap: Global, bytes: &[u8]) -> Option<Refusal> {
+pub(crate) fn refusal(heap: Global, bytes: &[u8]) -> Option<Refusal> {
     match read(heap, bytes) {
         Ok(_) => None,
         Err(fault) => Some((fault.number(), fault.place(), fault.depth())),

@@ -31,7 +31,7 @@ const SHEETS: [&'static str; 14] = [
 ];
 
 // The bytes are a sheet, which is written as they are.
-pub fn back_again(heap: Global, bytes: &[u8]) -> Result<(), Fail> {
+pub(crate) fn back_again(heap: Global, bytes: &[u8]) -> Result<(), Fail> {
     let sheet = read(heap, bytes)?;
     let text = write(heap, &sheet)?;
     check(text.as_slice() == bytes)
