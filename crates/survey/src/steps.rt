@@ -87,12 +87,9 @@ pub fn run_steps<M: Matroid, S: Source>(
     ensures source { λ _. ⌜ sourced (S·Source .meaning) (S·Source .keeps) (now (source .exit)) ≡ run (M·Matroid .meaning (now (matroid .entry))) (state (now (tables .entry))) (sourced (S·Source .meaning) (S·Source .keeps) (now (source .entry))) .source ⌝ }
 {
     loop {
-        match take_step(matroid, tables, source) {
-            Ok(paid) => match paid {
-                Some(_) => {}
-                None => return Ok(()),
-            },
-            Err(fault) => return Err(fault),
+        match take_step(matroid, tables, source)? {
+            Some(_) => {}
+            None => return Ok(()),
         }
     }
 }

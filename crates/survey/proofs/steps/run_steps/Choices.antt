@@ -5,10 +5,10 @@ use Rattle.survey.specs.States.{sourced, state}
 use Rattle.survey.proofs.Running.{Runs}
 use Rattle.survey.proofs.steps.run_steps.Given as given
 
-abbrev pub Inv-loop-paid : given.InvT-loop-paid
-Inv-loop-paid g l =
+abbrev pub Inv-loop : given.InvT-loop
+Inv-loop g l =
     Runs (g .M·Matroid .meaning (l .matroid)) (run (g .M·Matroid .meaning (l .matroid)) (state (l .entry .tables)) (sourced (g .S·Source .meaning) (g .S·Source .keeps) (l .entry .source))) (state (l .tables)) (sourced (g .S·Source .meaning) (g .S·Source .keeps) (l .source))
     × (g .S·Source .meaning (l .source) .depth ≡ g .S·Source .meaning (l .entry .source) .depth)
 
-abbrev pub μ-loop-paid : given.MeasureT-loop-paid
-μ-loop-paid g l = payable (g .M·Matroid .meaning (l .matroid) .size) (state (l .tables))
+abbrev pub μ-loop : given.MeasureT-loop
+μ-loop g l = payable (g .M·Matroid .meaning (l .matroid) .size) (state (l .tables))
