@@ -17,10 +17,7 @@ use Rattle.std.specs.declared.option.Option.the-variants.{Some, None}
 use Rattle.std.specs.declared.result.Result.{Result}
 use Rattle.std.specs.declared.result.Result.the-variants.{Ok, Err}
 use Rattle.element.specs.Marks.{all-marks}
-use Rattle.entry.specs.Entries.{Entry, Known, high, low}
-use Rattle.entry.specs.Held.{sheet}
-use Rattle.entry.specs.declared.Entry.{Entry as Value}
-use Rattle.survey.specs.States.{listed}
+use Rattle.entry.specs.Entries.{Entry, high, low}
 use Rattle.fault.specs.Refusals.{Refusal, refused}
 use Rattle.matroid.specs.Sets.{Elements, count, cut, sum}
 use Rattle.matroid.specs.Matroids.{Meaning}
@@ -99,12 +96,3 @@ module _ (m m₀ m₁ : Meaning) (same₀ : m₀ ≡ m) (same₁ : m₁ ≡ m) (
       (er ∙ (ap (λ (x : Result (Unit {0}) Refusal). and-then x (report-reply m₁ s₁ blank .answer)) answer ∙ ap (λ (x : Meaning). and-then rr (report-reply x s₁ blank .answer)) same₁))
       (λ h. ek h ∙ ap (λ (x : Meaning). report-reply x s₁ blank .marks) same₁) ∙
       ap (λ (s : State). by-answer (m .size) s named rr (report m s)) (e₁ ∙ ap (λ (x : Outcome). x .survey) a))
-
--- the first n entries of the first n entries
-pub relisted : (n k : ℕ) (t es : List Value) → sheet t ≡ listed k es → k ≡ n → listed n t ≡ listed n es
-relisted n k t es e q = fun-ext (λ i. ⊎-elim
-    (λ (l : i < n).
-    ap (λ (f : ℕ → Entry). cond (ltb i n) (f i) (Known 0)) e ∙ (ap (λ j. cond (ltb i n) (listed j es i) (Known 0)) q ∙
-    (cond-true (ltb i n) (listed n es i) (Known 0) (lt-ltb i n l))))
-    (λ (l : n ≤ i). cond-false (ltb i n) (sheet t i) (Known 0) (le-ltb i n l) ∙ sym (cond-false (ltb i n) (sheet es i) (Known 0) (le-ltb i n l)))
-    (cases-lt i n))

@@ -5,6 +5,7 @@ use mathlib.Core.List.{List}
 use Prim.Native.Nat.{ℕ, zero, suc, _+_, _*_, _%_, _^_}
 use denote.Ref.{RefT}
 use lib.ListN.{length, getD}
+use Rattle.entry.specs.declared.Entry.{Entry as Value}
 use Rattle.kinds.specs.declared.Route.{Route}
 use Rattle.sheet.specs.declared.values.ElementLine.{ElementLine}
 use Rattle.sheet.specs.declared.values.Lot.{Lot}
@@ -19,7 +20,11 @@ numeral w (suc n) = (2 * numeral w n + cond (w n) 1 0) % 2 ^ 64
 abbrev pub word-number : List Bool → ℕ
 word-number w = numeral (λ i. getD w i false) (length w)
 
--- what is taken from a line: the tail of an element,
+-- what is taken from a line: the entry of an element,
+abbrev pub entry-of : {T : Type 0} → ElementLine T → Value
+entry-of e = e .entry
+
+-- its tail,
 abbrev pub tail-of : {T : Type 0} → ElementLine T → T
 tail-of e = e .tail
 

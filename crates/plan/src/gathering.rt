@@ -5,9 +5,10 @@ ghost use Rattle.std.specs.Of.Vec.{vec-items, vec-len};
 ghost use Rattle.std.specs.Vec.{made, refused as failing};
 ghost use Rattle.fault.specs.Refusals.{refusal, refused};
 ghost use Rattle.sheet.specs.Code.{ones};
-ghost use Rattle.plan.specs.Meanings.{cap-of, number-of, tail-of, word-number};
+ghost use Rattle.plan.specs.Meanings.{cap-of, entry-of, number-of, tail-of, word-number};
 ghost use lib.ListN.{length};
 use element::Place;
+use entry::Entry;
 use fault::Fault;
 use kinds::Route;
 use sheet::ElementLine;
@@ -39,6 +40,24 @@ pub fn gathered<'a, F: Taking<'a>>(heap: Global, lines: &[F::Line]) -> Result<Ve
         values.push_reserved(F::take(&lines[i]));
     }
     Ok(values)
+}
+
+// What is known of an element's price, whatever its tail is. No value of it is made.
+#[derive(Drop)]
+pub struct EntryOf<T> {
+    tail: T,
+}
+
+pub impl<'a, T: Drop> Taking<'a> for EntryOf<T> as EntryOfTaking {
+    type Line = ElementLine<T>;
+
+    type Value = Entry;
+
+    ghost value = { entry-of };
+
+    fn take(line: &ElementLine<T>) -> Entry {
+        line.entry
+    }
 }
 
 // The ends of a route.

@@ -4,19 +4,20 @@ ghost use mathlib.Core.List.{map};
 ghost use mathlib.Core.Path.{_≡_};
 ghost use Rattle.std.specs.Of.Vec.{vec-items};
 ghost use Rattle.std.specs.declared.result.Result.the-variants.{Ok};
-ghost use Rattle.entry.specs.Held.{sheet};
 ghost use Rattle.fault.specs.Refusals.{starved, told};
 ghost use Rattle.matroid.specs.Questions.{marked};
 ghost use Rattle.survey.specs.States.{listed, state};
 ghost use Rattle.writer.specs.Written.{Wrote};
 ghost use Rattle.plan.specs.Names.{name-of};
 ghost use Rattle.plan.specs.Texts.{and-then, decided-text, plan-of, rationed};
+use crate::gathering::EntryOf;
+use crate::gathering::EntryOfTaking;
+use crate::gathering::gathered;
 use crate::naming::Naming;
 use crate::texts::put_finished;
 use crate::texts::put_stopped;
 use element::Element;
 use element::MARKS;
-use entry::Entry;
 use fault::Fault;
 use layers::Quota;
 use layers::QuotaSource;
@@ -24,7 +25,6 @@ use matroid::Matroid;
 use requests::Request;
 use requests::conduct;
 use sheet::Body;
-use sheet::ElementLine;
 use source::Record;
 use source::RecordSource;
 use std::alloc::Global;
@@ -33,17 +33,6 @@ use writer::Writer;
 
 // The most bytes of a plan.
 const MOST_BYTES: usize = 65_536;
-
-// The entries of the first n elements: those of the lines, and 0 is known of any other.
-fn entries_of<T: Drop>(elements: &[ElementLine<T>], n: Element) -> [Entry; MARKS]
-    ensures { λ r. ⌜ sheet r ≡ listed n (map (λ e. e .entry) (now (elements .entry))) ⌝ }
-{
-    let mut table = [Entry::Known(0); MARKS];
-    for i in 0..elements.len().min(n as usize) {
-        table[i] = elements[i].entry;
-    }
-    table
-}
 
 // The first answer where it is a refusal, and else the second.
 fn both(first: Result<(), Fault>, second: Result<(), Fault>) -> Result<(), Fault>
@@ -86,11 +75,11 @@ pub fn plan_body<'a, N: Naming<'a>, M: Matroid + Drop>(
     ensures { λ r. ⌜ (starved r ≡ false → told vec-items r ≡ Ok (plan-of (M·Matroid .meaning matroid) (listed (M·Matroid .meaning matroid .size) (map (λ e. e .entry) (vec-items (now (body .entry) .elements)))) (rationed (vec-items (now (body .entry) .recorded)) (now (body .entry) .allowance)) (name-of (N·Naming .named (vec-items (now (body .entry) .places))) (vec-items (now (body .entry) .elements))))) ⌝ }
 {
     let n = matroid.size();
-    let entries = entries_of(body.elements.as_slice(), n);
+    let entries = gathered::<EntryOf<N::Tail>>(heap, body.elements.as_slice())?;
     let source = Quota::new(Record::new(body.recorded.as_slice()), body.allowance);
     let mut requests = [Request::Run(source)];
     let mut marks = [false; MARKS];
-    let account = conduct(heap, matroid, &entries, &mut requests, &mut marks)?;
+    let account = conduct(heap, matroid, entries.as_slice(), &mut requests, &mut marks)?;
     let answer = both(account.answer, account.report);
     let mut writer = Writer::with_room(heap, MOST_BYTES)?;
     put_decided::<N, M>(&mut writer, &account.survey, body, n, answer, &marks);

@@ -1,4 +1,4 @@
-pub mod Listing
+mod Listing
 mod Paying
 mod Refusing
 pub mod Running
