@@ -14,8 +14,8 @@ use Rattle.matroid.specs.Questions.{marked, shown}
 use Rattle.matroid.proofs.Counts.{count_same, sum_same}
 use Rattle.matroid.proofs.Marks.{length_shown, shown_here}
 use Rattle.promise.specs.Surveys.{Source, State, Outcome, fresh, run, report}
-use Rattle.promise.specs.Replies.{Reply, followed, showing, run_reply, report_reply}
-use Rattle.plan.specs.Texts.{each_kept, kept_line, ledger_text, total_text, finished_text, stopped_text, decided_text, quota_origin, by_answer, plan_of}
+use Rattle.promise.specs.Replies.{Reply, showing, run_reply, report_reply}
+use Rattle.plan.specs.Texts.{each_kept, kept_line, ledger_text, total_text, finished_text, stopped_text, decided_text, and_then, quota_origin, by_answer, plan_of}
 
 -- marks of which none is set
 abbrev pub blank : List Bool
@@ -61,28 +61,27 @@ module _ (m : Meaning) (small : m.size ≤ all_marks) (named : ℕ → List ℕ)
       (ap (λ (L : Elements). finished_text m.size s named L) (ap marked (k e) ∙ marked_shown m.size K small) ∙
       same_finished m.size s named (cut m.size K) K (λ i l. ap (λ b. b && K i) (lt-ltb i m.size l)))
 
-  by_run : (rr : Result (Unit {0}) Refusal) (marks : List Bool) (r : Result (Unit {0}) Refusal) → r ≡ (followed rr blank (report_reply m s blank)).answer → marks ≡ (followed rr blank (report_reply m s blank)).marks
+  by_run : (rr : Result (Unit {0}) Refusal) (marks : List Bool) (r : Result (Unit {0}) Refusal) → r ≡ and_then rr (report_reply m s blank).answer → (r ≡ Ok tt → marks ≡ (report_reply m s blank).marks)
       → decided_text m.size s named r (marked marks) ≡ by_answer m.size s named rr (report m s)
   by_run (Err f) marks r e k = ap (λ (x : Result (Unit {0}) Refusal). decided_text m.size s named x (marked marks)) e
-  by_run (Ok tt) marks r e k = by_option (report m s) marks r (e ∙ ap (λ (x : Reply). x.answer) roomy) (λ h. k ∙ ap (λ (x : Reply). x.marks) roomy)
+  by_run (Ok tt) marks r e k = by_option (report m s) marks r (e ∙ ap (λ (x : Reply). x.answer) roomy) (λ h. k h ∙ ap (λ (x : Reply). x.marks) roomy)
 
-module _ (m m₀ : Meaning) (same : m₀ ≡ m) (E : ℕ → Entry) (s₀ s₁ : State) (σ σ₀ σ₁ : Source) (named : ℕ → List ℕ) (origin : ℕ → ℕ) (n : ℕ) (marks : List Bool) (r : Result (Unit {0}) Refusal) where
+module _ (m m₀ m₁ : Meaning) (same₀ : m₀ ≡ m) (same₁ : m₁ ≡ m) (E : ℕ → Entry) (s₀ s₁ : State) (σ σ₀ σ₁ : Source) (named : ℕ → List ℕ) (origin : ℕ → ℕ) (n : ℕ) (marks : List Bool) (r : Result (Unit {0}) Refusal) where
   pub planned : s₀ ≡ fresh E → σ₀ ≡ σ → s₁ ≡ (run m₀ s₀ σ₀).survey → σ₁ ≡ (run m₀ s₀ σ₀).source → origin ≡ quota_origin σ₁.supply
-      → r ≡ (followed (run_reply σ₀.supply.depth origin (run m₀ s₀ σ₀).answer) blank (report_reply m₀ (run m₀ s₀ σ₀).survey blank)).answer
-      → marks ≡ (followed (run_reply σ₀.supply.depth origin (run m₀ s₀ σ₀).answer) blank (report_reply m₀ (run m₀ s₀ σ₀).survey blank)).marks
+      → r ≡ and_then (run_reply σ₀.supply.depth origin (run m₀ s₀ σ₀).answer) (report_reply m₁ s₁ blank).answer → (r ≡ Ok tt → marks ≡ (report_reply m₁ s₁ blank).marks)
       → n ≡ m.size → n ≤ all_marks
       → decided_text n s₁ named r (marked marks) ≡ plan_of m E σ named
   planned es eσ e₁ e₂ eo er ek en small =
       let o : Outcome = run m (fresh E) σ in
-      let a : run m₀ s₀ σ₀ ≡ o = ap (λ (x : Meaning). run x s₀ σ₀) same ∙ ap (λ (s : State). run m s σ₀) es ∙ ap (λ (t : Source). run m (fresh E) t) eσ in
+      let a : run m₀ s₀ σ₀ ≡ o = ap (λ (x : Meaning). run x s₀ σ₀) same₀ ∙ (ap (λ (s : State). run m s σ₀) es ∙ ap (λ (t : Source). run m (fresh E) t) eσ) in
       let here : origin ≡ quota_origin o.source.supply = eo ∙ ap (λ (t : Source). quota_origin t.supply) (e₂ ∙ ap (λ (x : Outcome). x.source) a) in
       let rr : Result (Unit {0}) Refusal = run_reply σ.supply.depth (quota_origin o.source.supply) o.answer in
       let answer : run_reply σ₀.supply.depth origin (run m₀ s₀ σ₀).answer ≡ rr =
       ap (λ (t : Source). run_reply t.supply.depth origin (run m₀ s₀ σ₀).answer) eσ ∙
       (ap (λ (f : ℕ → ℕ). run_reply σ.supply.depth f (run m₀ s₀ σ₀).answer) here ∙
       ap (λ (x : Outcome). run_reply σ.supply.depth (quota_origin o.source.supply) x.answer) a) in
-      let reply : followed (run_reply σ₀.supply.depth origin (run m₀ s₀ σ₀).answer) blank (report_reply m₀ (run m₀ s₀ σ₀).survey blank) ≡ followed rr blank (report_reply m s₁ blank) =
-      ap (λ (x : Result (Unit {0}) Refusal). followed x blank (report_reply m₀ (run m₀ s₀ σ₀).survey blank)) answer ∙ ap (λ (x : Meaning). followed rr blank (report_reply x (run m₀ s₀ σ₀).survey blank)) same ∙ ap (λ (s : State). followed rr blank (report_reply m s blank)) (sym e₁) in
       ap (λ k. decided_text k s₁ named r (marked marks)) en ∙
-      (by_run m (omega arith) named s₁ rr marks r (er ∙ ap (λ (x : Reply). x.answer) reply) (ek ∙ ap (λ (x : Reply). x.marks) reply) ∙
+      (by_run m (omega arith) named s₁ rr marks r
+      (er ∙ (ap (λ (x : Result (Unit {0}) Refusal). and_then x (report_reply m₁ s₁ blank).answer) answer ∙ ap (λ (x : Meaning). and_then rr (report_reply x s₁ blank).answer) same₁))
+      (λ h. ek h ∙ ap (λ (x : Meaning). (report_reply x s₁ blank).marks) same₁) ∙
       ap (λ (s : State). by_answer m.size s named rr (report m s)) (e₁ ∙ ap (λ (x : Outcome). x.survey) a))

@@ -1,3 +1,4 @@
+mod Asking
 mod Deciding
 mod Keeping
 mod Linking

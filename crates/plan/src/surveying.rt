@@ -5,7 +5,7 @@ ghost use Rattle.matroid.specs.Questions.{marked};
 ghost use Rattle.survey.specs.States.{listed, state};
 ghost use Rattle.writer.specs.Written.{Wrote};
 ghost use Rattle.plan.specs.Names.{name_of};
-ghost use Rattle.plan.specs.Texts.{decided_text, plan_of, rationed};
+ghost use Rattle.plan.specs.Texts.{and_then, decided_text, plan_of, rationed};
 
 use crate::gathering::{EntryOf, gathered};
 use crate::naming::Naming;
@@ -14,6 +14,7 @@ use element::{Element, MARKS};
 use fault::Fault;
 use layers::Quota;
 use matroid::Matroid;
+use requests::{Request, conduct};
 use sheet::Body;
 use source::Record;
 use std::alloc::Global;
@@ -22,6 +23,14 @@ use writer::Writer;
 
 // The most bytes of a plan.
 const MOST_BYTES: usize = 65_536;
+
+// The first answer where it is a refusal, and else the second.
+fn both(first: Result<(), Fault>, second: Result<(), Fault>) -> Result<(), Fault>
+    ensures { told (λ x. x) result ≡ and_then (told (λ x. x) first) (told (λ x. x) second) }
+{
+    first?;
+    second
+}
 
 // What the survey came to.
 fn put_decided<'a, N: Naming<'a>, M: Matroid + Drop>(
@@ -57,11 +66,12 @@ pub fn plan_body<'a, N: Naming<'a>, M: Matroid + Drop>(
 {
     let n = matroid.size();
     let entries = gathered::<EntryOf<N::Tail>>(heap, body.elements.as_slice())?;
-    let mut source = Quota::new(Record::new(body.recorded.as_slice()), body.allowance);
+    let source = Quota::new(Record::new(body.recorded.as_slice()), body.allowance);
+    let mut requests = [Request::Run(source)];
     let mut marks = [false; MARKS];
-    let mut survey = Survey::new(heap, matroid, entries.as_slice())?;
-    let answer = survey.run_and_report(&mut source, &mut marks);
+    let account = conduct(heap, matroid, entries.as_slice(), &mut requests, &mut marks)?;
+    let answer = both(account.answer, account.report);
     let mut writer = Writer::with_room(heap, MOST_BYTES)?;
-    put_decided::<N, M>(&mut writer, &survey, body, n, answer, &marks);
+    put_decided::<N, M>(&mut writer, &account.survey, body, n, answer, &marks);
     writer.finish()
 }

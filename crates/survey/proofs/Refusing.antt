@@ -1,5 +1,5 @@
 -- A price call that the source refuses. Assumes nothing.
-use Rattle.std.proofs.Common.{◌≡◌, ℕ, Bool, Some, Ok, Err, Option, Result, sym, refl, ap, ◌∙◌, arith}
+use Rattle.std.proofs.Common.{◌≡◌, ℕ, Bool, Ok, Err, Option, Result, sym, refl, ap, ◌∙◌, arith}
 use Rattle.element.specs.declared.Line.{Line}
 use Rattle.fault.specs.declared.Fault.{Fault}
 use Rattle.fault.specs.Refusals.{Refusal, refusal, refused as refusal-of, told}
@@ -11,11 +11,11 @@ module _ (s : State) (σ : Source) (e : ℕ) (q : Option ℕ) (depth : ℕ) (bef
   never : {X : Type 0} (p : ℕ) → ◌≡◌ {A = Result ℕ Refusal} (Err (refusal f)) (Ok p) → X
   never p h = let z : ◌≡◌ {A = ℕ} 0 1 = cc in absurd (omega arith)
 
-  pub refused_answer : (v : Verdict) (r : Result Line Fault) (x : Fault) → r ≡ Err x → x ≡ f → Err (refusal f) ≡ spoken v (before e) e
-      → told Some r ≡ step_reply depth origin (tried s σ e q v).answer
+  pub refused_answer : (v : Verdict) (r : Result (Option Line) Fault) (x : Fault) → r ≡ Err x → x ≡ f → Err (refusal f) ≡ spoken v (before e) e
+      → told (λ l. l) r ≡ step_reply depth origin (tried s σ e q v).answer
   refused_answer (refused c) r x p y h =
       let a : refusal f ≡ refusal-of (refusal_number c) e (before e) = cc in
-      ap (told Some) p ∙ (ap (λ z. Err (refusal z)) y ∙ (ap (λ (z : Refusal). Err z) a ∙ ap (λ (o : ℕ → ℕ). Err (refusal-of (refusal_number c) e (o e))) (sym same)))
+      ap (told (λ l. l)) p ∙ (ap (λ z. Err (refusal z)) y ∙ (ap (λ (z : Refusal). Err z) a ∙ ap (λ (o : ℕ → ℕ). Err (refusal-of (refusal_number c) e (o e))) (sym same)))
   refused_answer (given p) r x k y h = never p h
 
   pub refused_survey : (v : Verdict) → Err (refusal f) ≡ spoken v (before e) e → s ≡ (tried s σ e q v).survey

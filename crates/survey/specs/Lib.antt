@@ -1,3 +1,2 @@
 pub mod Knowns
-pub mod Moves
 pub mod States

@@ -1,5 +1,5 @@
 // One price call.
-ghost use Rattle.std.specs.Prelude.{◌≡◌, Some};
+ghost use Rattle.std.specs.Prelude.{◌≡◌};
 ghost use Rattle.fault.specs.Refusals.{told};
 ghost use Rattle.promise.specs.Surveys.{tried};
 ghost use Rattle.promise.specs.Replies.{step_reply};
@@ -17,8 +17,8 @@ pub fn price_element<S: Source>(
     source: &mut S,
     element: Element,
     pending: Option<Element>,
-) -> Result<Line, Fault>
-    ensures answer { told Some result ≡ step_reply (S.Source.meaning source.old).depth (S.Source.origin source.new) (tried (state tables.old) (sourced S.Source.meaning S.Source.keeps source.old) element pending (verdict (S.Source.meaning source.old) element)).answer }
+) -> Result<Option<Line>, Fault>
+    ensures answer { told (λ x. x) result ≡ step_reply (S.Source.meaning source.old).depth (S.Source.origin source.new) (tried (state tables.old) (sourced S.Source.meaning S.Source.keeps source.old) element pending (verdict (S.Source.meaning source.old) element)).answer }
     ensures survey { state tables.new ≡ (tried (state tables.old) (sourced S.Source.meaning S.Source.keeps source.old) element pending (verdict (S.Source.meaning source.old) element)).survey }
     ensures source { sourced S.Source.meaning S.Source.keeps source.new ≡ (tried (state tables.old) (sourced S.Source.meaning S.Source.keeps source.old) element pending (verdict (S.Source.meaning source.old) element)).source }
 {
@@ -29,5 +29,5 @@ pub fn price_element<S: Source>(
         return Err(Fault::PriceOutside { element, depth });
     }
     tables.pay(element, price, pending);
-    Ok(Line { element, price })
+    Ok(Some(Line { element, price }))
 }

@@ -3,7 +3,7 @@ ghost use Rattle.std.specs.Prelude.{◌≡◌, IfOk, IfErr};
 ghost use Rattle.std.specs.List.{slice_get};
 ghost use Rattle.entry.specs.Held.{held, sheet};
 ghost use Rattle.fault.specs.Refusals.{refusal, refused, told};
-ghost use Rattle.promise.specs.Replies.{followed, note_reply, report_reply, run_reply, step_reply};
+ghost use Rattle.promise.specs.Replies.{note_reply, report_reply, run_reply, step_reply};
 ghost use Rattle.promise.specs.Surveys.{fresh, note, run, step};
 ghost use Rattle.promise.specs.Reports.{Assures};
 ghost use Rattle.promise.specs.Runs.{Progresses, Unpaid};
@@ -15,7 +15,7 @@ use crate::tables::Tables;
 use element::{Element, Line, MARKS, Price};
 use entry::Entry;
 use fault::Fault;
-use matroid::{Matroid, show};
+use matroid::Matroid;
 use source::Source;
 use std::alloc::Global;
 
@@ -76,28 +76,7 @@ impl<M: Matroid + Drop> Survey<M> {
         ensures unpaid { Unpaid (run (M.Matroid.meaning self.old.matroid) (state self.old.tables) (sourced S.Source.meaning S.Source.keeps source.old)) }
         ensures progress { Progresses (M.Matroid.meaning self.old.matroid) (state self.old.tables) (sourced S.Source.meaning S.Source.keeps source.old) }
     {
-        run_steps(&self.matroid, &mut self.tables, source)?;
-        Ok(())
-    }
-
-    // Runs, and where it is finished shows the base that is settled, in the first marks: a run and then a report, by one walk.
-    pub fn run_and_report<S: Source>(
-        &mut self,
-        source: &mut S,
-        marks: &mut [bool],
-    ) -> Result<(), Fault>
-        ensures matroid { self.new.matroid ≡ self.old.matroid }
-        ensures answer { told (λ x. x) result ≡ (followed (run_reply (S.Source.meaning source.old).depth (S.Source.origin source.new) (run (M.Matroid.meaning self.old.matroid) (state self.old.tables) (sourced S.Source.meaning S.Source.keeps source.old)).answer) marks.old (report_reply (M.Matroid.meaning self.old.matroid) (run (M.Matroid.meaning self.old.matroid) (state self.old.tables) (sourced S.Source.meaning S.Source.keeps source.old)).survey marks.old)).answer }
-        ensures marks { marks.new ≡ (followed (run_reply (S.Source.meaning source.old).depth (S.Source.origin source.new) (run (M.Matroid.meaning self.old.matroid) (state self.old.tables) (sourced S.Source.meaning S.Source.keeps source.old)).answer) marks.old (report_reply (M.Matroid.meaning self.old.matroid) (run (M.Matroid.meaning self.old.matroid) (state self.old.tables) (sourced S.Source.meaning S.Source.keeps source.old)).survey marks.old)).marks }
-        ensures survey { state self.new.tables ≡ (run (M.Matroid.meaning self.old.matroid) (state self.old.tables) (sourced S.Source.meaning S.Source.keeps source.old)).survey }
-        ensures source { sourced S.Source.meaning S.Source.keeps source.new ≡ (run (M.Matroid.meaning self.old.matroid) (state self.old.tables) (sourced S.Source.meaning S.Source.keeps source.old)).source }
-    {
-        let kept = run_steps(&self.matroid, &mut self.tables, source)?;
-        if marks.len() < MARKS {
-            return Err(Fault::TooFewMarks);
-        }
-        show(&kept, self.matroid.size(), marks);
-        Ok(())
+        run_steps(&self.matroid, &mut self.tables, source)
     }
 
     // Makes a price known that was learnt elsewhere: the ledger stays as it was.

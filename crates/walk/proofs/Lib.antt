@@ -1,4 +1,2 @@
-mod Delays
 mod Scans
-mod Stages
 mod Turns
