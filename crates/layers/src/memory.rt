@@ -23,8 +23,8 @@ impl<S: Source> Memory<S> {
     pub fn new(below: S) -> Memory<S>
         ensures below { result.below ≡ below }
         ensures fresh { tabled result.remembered ≡ blank }
-        ensures lasts { Lasts (remembering (meaning below) blank) }
-        ensures once { PaysOnce (remembering (meaning below) blank) }
+        ensures lasts { Lasts (remembering (S.meaning below) blank) }
+        ensures once { PaysOnce (remembering (S.meaning below) blank) }
     {
         promises::remembers(&below);
         Memory {
@@ -47,9 +47,9 @@ impl<S: Source> Memory<S> {
     // Asks below for a price that is not remembered, and remembers it.
     fn learn(&mut self, element: Element) -> Result<Price, Fault>
         requires { tabled self.old.remembered element ≡ None }
-        ensures answer { told (λ p. p) result ≡ answered (remembering (meaning self.old.below) (tabled self.old.remembered)) (origin self.old.below element) element }
-        ensures after { remembering (meaning self.new.below) (tabled self.new.remembered) ≡ after (remembering (meaning self.old.below) (tabled self.old.remembered)) true element }
-        ensures still { OnErr result (origin self.new.below ≡ origin self.old.below) }
+        ensures answer { told (λ p. p) result ≡ answered (remembering (S.meaning self.old.below) (tabled self.old.remembered)) (S.origin self.old.below element) element }
+        ensures after { remembering (S.meaning self.new.below) (tabled self.new.remembered) ≡ after (remembering (S.meaning self.old.below) (tabled self.old.remembered)) true element }
+        ensures still { OnErr result (S.origin self.new.below ≡ S.origin self.old.below) }
     {
         let price = self.below.price(element)?;
         self.remembered.set(element, Some(price));

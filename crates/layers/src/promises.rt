@@ -6,11 +6,11 @@ ghost use Rattle.layers.specs.Layers.{remembering, limited, Bounded};
 use source::Source;
 
 pub(crate) fn remembers<S: Source>(below: &S)
-    ensures lasts { Lasts (remembering (meaning below.now) blank) }
-    ensures once { PaysOnce (remembering (meaning below.now) blank) }
+    ensures lasts { Lasts (remembering (S.meaning below.now) blank) }
+    ensures once { PaysOnce (remembering (S.meaning below.now) blank) }
 {}
 
 pub(crate) fn limits<S: Source>(below: &S, number: u32)
-    ensures lasts { Lasts (limited (meaning below.now) number) }
-    ensures bounded { Bounded (meaning below.now) number }
+    ensures lasts { Lasts (limited (S.meaning below.now) number) }
+    ensures bounded { Bounded (S.meaning below.now) number }
 {}

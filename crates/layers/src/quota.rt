@@ -22,8 +22,8 @@ impl<S: Source> Quota<S> {
     pub fn new(below: S, number: u32) -> Quota<S>
         ensures below { result.below ≡ below }
         ensures number { result.number ≡ number }
-        ensures lasts { Lasts (limited (meaning below) number) }
-        ensures bounded { Bounded (meaning below) number }
+        ensures lasts { Lasts (limited (S.meaning below) number) }
+        ensures bounded { Bounded (S.meaning below) number }
     {
         promises::limits(&below, number);
         Quota { below, number }
@@ -55,18 +55,18 @@ impl<S: Source> Quota<S> {
 
     // Whether it refuses the element itself: its number is 0, and the element is not free.
     fn refuses(&self, element: Element) -> bool
-        ensures { result ≡ closed (meaning self.now.below) self.now.number element }
+        ensures { result ≡ closed (S.meaning self.now.below) self.now.number element }
     {
         !self.below.free(element) && self.number == 0
     }
 
     // Asks below for a price, and counts it unless the element was free.
     fn pass(&mut self, element: Element) -> Result<Price, Fault>
-        requires { closed (meaning self.old.below) self.old.number element ≡ false }
-        ensures answer { told (λ p. p) result ≡ answered (limited (meaning self.old.below) self.old.number) (blamed (meaning self.old.below) (origin self.old.below) self.old.number element) element }
-        ensures after { limited (meaning self.new.below) self.new.number ≡ after (limited (meaning self.old.below) self.old.number) (keeps self.old.below element) element }
-        ensures kept { keeps self.new.below ≡ keeps self.old.below }
-        ensures still { OnErr result (blamed (meaning self.new.below) (origin self.new.below) self.new.number ≡ blamed (meaning self.old.below) (origin self.old.below) self.old.number) }
+        requires { closed (S.meaning self.old.below) self.old.number element ≡ false }
+        ensures answer { told (λ p. p) result ≡ answered (limited (S.meaning self.old.below) self.old.number) (blamed (S.meaning self.old.below) (S.origin self.old.below) self.old.number element) element }
+        ensures after { limited (S.meaning self.new.below) self.new.number ≡ after (limited (S.meaning self.old.below) self.old.number) (S.keeps self.old.below element) element }
+        ensures kept { S.keeps self.new.below ≡ S.keeps self.old.below }
+        ensures still { OnErr result (blamed (S.meaning self.new.below) (S.origin self.new.below) self.new.number ≡ blamed (S.meaning self.old.below) (S.origin self.old.below) self.old.number) }
     {
         let free = self.below.free(element);
         let price = self.below.price(element)?;

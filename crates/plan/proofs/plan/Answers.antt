@@ -6,7 +6,7 @@ use Rattle.plan.proofs.plan.Goals as goal
 
 pub returns-in-Ok : goal.returns-in-Ok
 returns-in-Ok c = record {
-  plan = λ fed. c.plan-sheet.ensures (c.in-Ok.ensures.tells refl).0.0 fed ∙ ap (λ r. Ok (answer_plan r)) (c.in-Ok.ensures.reads refl);
+  plan = λ fed. c.plan_sheet.ensures (c.in-Ok.ensures.tells refl).0.0 fed ∙ ap (λ r. Ok (answer_plan r)) (c.in-Ok.ensures.reads refl);
   promise = kept c.args.bytes.now;
   tells = tells c.args.bytes.now;
 }

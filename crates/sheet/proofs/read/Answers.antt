@@ -3,7 +3,7 @@ use Rattle.sheet.proofs.read.Goals as goal
 
 pub returns : goal.returns
 returns c = record {
-  reads = reads_of c.args.bytes.now c.read-whole.result c.read-whole.ensures;
-  tells = tells_of c.args.bytes.now c.read-whole.result c.read-whole.ensures;
-  memory = memory_of c.args.bytes.now c.read-whole.result c.read-whole.ensures;
+  reads = reads_of c.args.bytes.now c.read_whole.result c.read_whole.ensures;
+  tells = tells_of c.args.bytes.now c.read_whole.result c.read_whole.ensures;
+  memory = memory_of c.args.bytes.now c.read_whole.result c.read_whole.ensures;
 }

@@ -15,15 +15,15 @@ pub returns : goal.returns
 returns c small fed =
     let b = c.args.body.now in
     let es = vec_items b.elements in
-    let made = c.in-ok-tails.ensures.made in
-    let caps = c.in-ok-caps.ensures.made in
-    let slice = c.as-slice.ensures.value in
-    let m : Meaning = lots_of (vec_items c.in-ok-matroid.matroid.lots) (vec_items c.in-ok-matroid.matroid.caps) in
+    let made = c.in_ok-tails.ensures.made in
+    let caps = c.in_ok-caps.ensures.made in
+    let slice = c.as_slice.ensures.value in
+    let m : Meaning = lots_of (vec_items c.in_ok-matroid.matroid.lots) (vec_items c.in_ok-matroid.matroid.caps) in
     let same : m ≡ lots_of (map tail_of es) (map cap_of (vec_items b.places)) =
-    meant m (lots_of (vec_items c.in-ok-tails.tails) (vec_items c.in-ok-caps.caps)) _ (refused 3 0 0) c.in-ok-matroid.ensures (omega (arith, made.1, ap length slice)) ∙
-    (ap (λ ls. lots_of ls (vec_items c.in-ok-caps.caps)) (made.0 ∙ ap (map tail_of) slice) ∙
-    ap (lots_of (map tail_of es)) (caps.0 ∙ ap (map cap_of) c.as-slice-2.ensures.value)) in
-    c.plan-body.ensures fed ∙
+    meant m (lots_of (vec_items c.in_ok-tails.tails) (vec_items c.in_ok-caps.caps)) _ (refused 3 0 0) c.in_ok-matroid.ensures (omega (arith, made.1, ap length slice)) ∙
+    (ap (λ ls. lots_of ls (vec_items c.in_ok-caps.caps)) (made.0 ∙ ap (map tail_of) slice) ∙
+    ap (lots_of (map tail_of es)) (caps.0 ∙ ap (map cap_of) c.as_slice-2.ensures.value)) in
+    c.plan_body.ensures fed ∙
     ap Ok (body_link lot_of itself b m _ (lot_name_text (vec_items b.places)) (lot_name (map lot_of (vec_items b.places)))
     (same ∙
     (ap (λ ls. lots_of ls (map cap_of (vec_items b.places))) (sym (map_twice (element_of itself) (λ e. e.1) tail_of (λ e. refl) es)) ∙

@@ -14,12 +14,12 @@ pub returns : goal.returns
 returns c small fed =
     let b = c.args.body.now in
     let es = vec_items b.elements in
-    let made = c.in-ok-tails.ensures.made in
-    let slice = c.as-slice.ensures.value in
-    let m : Meaning = routes_of (vec_items c.in-ok-matroid.matroid.routes) in
+    let made = c.in_ok-tails.ensures.made in
+    let slice = c.as_slice.ensures.value in
+    let m : Meaning = routes_of (vec_items c.in_ok-matroid.matroid.routes) in
     let same : m ≡ routes_of (map tail_of es) =
-    meant m (routes_of (vec_items c.in-ok-tails.tails)) _ (refused 3 0 0) c.in-ok-matroid.ensures (omega (arith, made.1, ap length slice)) ∙
+    meant m (routes_of (vec_items c.in_ok-tails.tails)) _ (refused 3 0 0) c.in_ok-matroid.ensures (omega (arith, made.1, ap length slice)) ∙
     ap routes_of (made.0 ∙ ap (map tail_of) slice) in
-    c.plan-body.ensures fed ∙
+    c.plan_body.ensures fed ∙
     ap Ok (body_link bytes route_of b m _ (route_name_text (vec_items b.places)) (route_name (map bytes (vec_items b.places)))
     (same ∙ ap routes_of (sym (tails_link bytes route_of b route_from tail_of (λ e. refl)))) (ap (λ (x : Meaning). x.size) same ∙ length-map es tail_of) (λ y. refl))

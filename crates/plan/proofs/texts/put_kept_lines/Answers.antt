@@ -17,7 +17,7 @@ loop-i-preserved g c =
     in elim c.if-marks-i.branch [
       | then-marks-i w ↦
           subst (λ (z : Writer). Wrote c.args.writer.now (each_kept (c.loop-i.i + 1) K text) z) (sym w.writer-is)
-          (wrote_as (each_in c.loop-i.i K text w.if-marks-i.true) (wrote_both c.loop-i.invariant w.put-kept-line.ensures))
+          (wrote_as (each_in c.loop-i.i K text w.if-marks-i.true) (wrote_both c.loop-i.invariant w.put_kept_line.ensures))
       | else-marks-i w ↦
           subst (λ (z : Writer). Wrote c.args.writer.now (each_kept (c.loop-i.i + 1) K text) z) (sym w.writer-is)
           (wrote_as (each_out c.loop-i.i K text w.if-marks-i.false) c.loop-i.invariant)

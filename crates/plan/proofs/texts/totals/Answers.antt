@@ -17,7 +17,7 @@ loop-i-preserved g c =
           in let h = w.from-highs.ensures ∙ (w.high.ensures ∙ ap high w.entry-entry.ensures)
           in let sl = sum_in i K (λ k. low (E k)) w.if-marks-i.true
           in let sh = sum_in i K (λ k. high (E k)) w.if-marks-i.true
-          in (w.lows-is ∙ omega (arith, c.loop-i.invariant.0, sl, l), omega (arith, w.lows-is, c.loop-i.invariant.1, w.from-lows.ensures, w.low.type-inv), w.highs-is ∙ omega (arith, c.loop-i.invariant.2, sh, h), omega (arith, w.highs-is, c.loop-i.invariant.3, w.from-highs.ensures, w.high.type-inv))
+          in (w.lows-is ∙ omega (arith, c.loop-i.invariant.0, sl, l), omega (arith, w.lows-is, c.loop-i.invariant.1, w.from-lows.ensures, w.low.type_inv), w.highs-is ∙ omega (arith, c.loop-i.invariant.2, sh, h), omega (arith, w.highs-is, c.loop-i.invariant.3, w.from-highs.ensures, w.high.type_inv))
       | else-marks-i w ↦
           let sl = sum_out i K (λ k. low (E k)) w.if-marks-i.false
           in let sh = sum_out i K (λ k. high (E k)) w.if-marks-i.false

@@ -10,14 +10,14 @@ use Rattle.requests.proofs.lists.carry_out_all.Goals as goal
 
 pub loop-i-preserved : goal.loop-i-preserved
 loop-i-preserved g c =
-    let h = c.carry-out-answer.ensures in
+    let h = c.carry_out-answer.ensures in
     let k = c.loop-i.invariant.0 in
     let t = state c.loop-i.survey.tables in
     let q = get_or c.loop-i.requests c.loop-i.i c.index-requests-i.result in
-    let q' = c.carry-out-answer.new.request in (
+    let q' = c.carry_out-answer.new.request in (
       h.matroid ∙ k,
       carried_more g.S.Source.meaning g.S.Source.keeps g.S.Source.origin (g.M.Matroid.meaning c.args.survey.now.matroid) (state c.args.survey.now.tables) c.args.requests.now
-          c.loop-i.i t (state c.carry-out-answer.new.survey.tables) c.loop-i.requests (told (λ x. x) c.loop-i.answer) (told (λ x. x) c.carry-out-answer.result) q q'
+          c.loop-i.i t (state c.carry_out-answer.new.survey.tables) c.loop-i.requests (told (λ x. x) c.loop-i.answer) (told (λ x. x) c.carry_out-answer.result) q q'
           c.loop-i.invariant.1 (omega arith) (slice_get-get_or c.loop-i.requests c.loop-i.i c.index-requests-i.result (omega arith))
           (h.survey ∙ ap (λ x. did (g.M.Matroid.meaning x) t (call_of g.S.Source.meaning g.S.Source.keeps q)) k)
           (h.request ∙ ap (λ x. spent_call (g.M.Matroid.meaning x) t (call_of g.S.Source.meaning g.S.Source.keeps q)) k)

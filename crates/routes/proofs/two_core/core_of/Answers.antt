@@ -4,7 +4,7 @@ use Rattle.matroid.specs.Questions.{marked}
 
 pub loop-place-preserved : goal.loop-place-preserved
 loop-place-preserved c = (
-  c.strip-from.ensures.tallied,
-  strips_more c.args.routes.now (marked c.args.marks.now) (marked c.loop-place.left) (marked c.strip-from.new.marks) c.loop-place.invariant.1 c.strip-from.ensures.strips,
-  c.strip-from.ensures.before,
+  c.strip_from.ensures.tallied,
+  strips_more c.args.routes.now (marked c.args.marks.now) (marked c.loop-place.left) (marked c.strip_from.new.marks) c.loop-place.invariant.1 c.strip_from.ensures.strips,
+  c.strip_from.ensures.before,
 )

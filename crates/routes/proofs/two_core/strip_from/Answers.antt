@@ -11,9 +11,9 @@ loop-places-init c =
 
 pub loop-places-preserved : goal.loop-places-preserved
 loop-places-preserved c =
-    stripping_steps c.args.routes.now c.args.start c.loop-places.place c.strip-leaf-place.result (marked c.args.marks.now) (marked c.loop-places.marks)
-    (marked c.strip-leaf-place.new.marks) c.loop-places.places c.strip-leaf-place.new.places c.loop-places.invariant c.strip-leaf-place.type-inv c.strip-leaf-place.ensures.stripped
-    c.strip-leaf-place.ensures.tallied
+    stripping_steps c.args.routes.now c.args.start c.loop-places.place c.strip_leaf-place.result (marked c.args.marks.now) (marked c.loop-places.marks)
+    (marked c.strip_leaf-place.new.marks) c.loop-places.places c.strip_leaf-place.new.places c.loop-places.invariant c.strip_leaf-place.type_inv c.strip_leaf-place.ensures.stripped
+    c.strip_leaf-place.ensures.tallied
 
 pub loop-places-smaller : goal.loop-places-smaller
-loop-places-smaller c = c.strip-leaf-place.ensures.stripped.fewer
+loop-places-smaller c = c.strip_leaf-place.ensures.stripped.fewer

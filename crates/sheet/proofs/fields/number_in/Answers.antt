@@ -25,7 +25,7 @@ loop-i-preserved c = (
 )
 
 pub returns-then-value-le4294967295 : goal.returns-then-value-le4294967295
-returns-then-value-le4294967295 c = end_some c.args.field.now c.loop-i.i c.loop-i.value c.loop-i.invariant.0 (omega arith) (omega (arith, false-eqb _ 0 c.if-is-empty.ensures)) (omega arith)
+returns-then-value-le4294967295 c = end_some c.args.field.now c.loop-i.i c.loop-i.value c.loop-i.invariant.0 (omega arith) (omega (arith, false-eqb _ 0 c.if-is_empty.ensures)) (omega arith)
 
 pub returns-else-value-le4294967295 : goal.returns-else-value-le4294967295
 returns-else-value-le4294967295 c = end_big c.args.field.now c.loop-i.i c.loop-i.value c.loop-i.invariant.0 (omega arith) (omega arith)

@@ -24,10 +24,10 @@ returns-in-Err g c = record {
 pub loop-preserved : goal.loop-preserved
 loop-preserved g c = (
   sofar_turn _ _ _ _ _ _ _ _ _ _ _ _ c.loop.invariant.0 (last_is g.F.Row.value (vec_items c.loop.items) _ _ c.deref.ensures.value c.last.ensures.item) c.in-Ok.ensures.read (omega arith)
-      (ap (map g.F.Row.value) c.push-reserved.ensures.items ∙ map_push g.F.Row.value (vec_items c.loop.items) c.in-Ok.item),
+      (ap (map g.F.Row.value) c.push_reserved.ensures.items ∙ map_push g.F.Row.value (vec_items c.loop.items) c.in-Ok.item),
   omega (arith, c.in-Ok.ensures.room),
-  omega (arith, c.push-reserved.ensures.len),
-  omega (arith, c.push-reserved.ensures.capacity),
+  omega (arith, c.push_reserved.ensures.len),
+  omega (arith, c.push_reserved.ensures.capacity),
 )
 
 pub returns : goal.returns

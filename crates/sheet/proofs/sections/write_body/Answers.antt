@@ -9,7 +9,7 @@ returns g c =
     wrote_both
     (wrote_both (wrote_as (ap decimal c.from.ensures) c.number.ensures) c.byte.ensures)
     (wrote_both
-    (wrote_as (ap (λ xs. section g.P.Row.text (map g.P.Row.value xs)) c.deref.ensures.value) c.write-section.ensures)
+    (wrote_as (ap (λ xs. section g.P.Row.text (map g.P.Row.value xs)) c.deref.ensures.value) c.write_section.ensures)
     (wrote_both
-    (wrote_as (ap (λ xs. section (element_text g.T.Tail.text) (map (element_of g.T.Tail.value) xs)) c.deref-2.ensures.value) c.write-section-2.ensures)
-    (wrote_as (ap (λ xs. section recorded_text (map record_of xs)) c.deref-3.ensures.value) c.write-lines.ensures)))
+    (wrote_as (ap (λ xs. section (element_text g.T.Tail.text) (map (element_of g.T.Tail.value) xs)) c.deref-2.ensures.value) c.write_section-2.ensures)
+    (wrote_as (ap (λ xs. section recorded_text (map record_of xs)) c.deref-3.ensures.value) c.write_lines.ensures)))

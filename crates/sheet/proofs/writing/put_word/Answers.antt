@@ -11,7 +11,7 @@ loop-letter-init c = wrote_none c.args.writer.now
 pub loop-letter-preserved : goal.loop-letter-preserved
 loop-letter-preserved c =
     wrote_as (sym (map_more bit_of c.args.word.now c.loop-letter.letter-index 0 (omega arith)))
-    (wrote_both c.loop-letter.invariant (wrote_as (ap (λ b. b ∷ []) c.bit-of.ensures) c.byte.ensures))
+    (wrote_both c.loop-letter.invariant (wrote_as (ap (λ b. b ∷ []) c.bit_of.ensures) c.byte.ensures))
 
 pub returns : goal.returns
 returns c =

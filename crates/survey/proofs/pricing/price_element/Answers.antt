@@ -4,18 +4,18 @@ use Rattle.survey.specs.States.{sourced, state}
 use Rattle.survey.proofs.Refusing.{refused_answer, refused_survey, refused_source}
 use Rattle.survey.proofs.pricing.price_element.Goals as goal
 
-pub returns-in-err-price : goal.returns-in-err-price
-returns-in-err-price g c =
-    let p = err_from_is_err_and c.from-residual.result c.from-residual.ensures.1 in
+pub returns-in_err-price : goal.returns-in_err-price
+returns-in_err-price g c =
+    let p = err_from_is_err_and c.from_residual.result c.from_residual.ensures.1 in
     let s = state c.args.tables.now in
     let σ = sourced g.S.Source.meaning g.S.Source.keeps c.args.source.now in
     let v = verdict (g.S.Source.meaning c.args.source.now) c.args.element in
-    let f = c.in-err-price.field-0.0 in
+    let f = c.in_err-price.field-0.0 in
     let d = (g.S.Source.meaning c.args.source.now).depth in
     let o = g.S.Source.origin c.args.source.now in
-    let h = c.in-err-price.ensures in
+    let h = c.in_err-price.ensures in
     record {
-      answer = refused_answer s σ c.args.element c.args.pending d o (g.S.Source.origin c.price.new.self) h.still f v c.from-residual.result p.0 p.1 p.2 h.answer;
+      answer = refused_answer s σ c.args.element c.args.pending d o (g.S.Source.origin c.price.new.self) h.still f v c.from_residual.result p.0 p.1 p.2 h.answer;
       survey = refused_survey s σ c.args.element c.args.pending d o (g.S.Source.origin c.price.new.self) h.still f v h.answer;
       source = refused_source s σ c.args.element c.args.pending d o (g.S.Source.origin c.price.new.self) h.still f v h.answer (g.S.Source.meaning c.price.new.self) (g.S.Source.keeps c.price.new.self) h.after h.kept;
     }

@@ -13,42 +13,42 @@ loop-init g c =
 
 pub loop-smaller : goal.loop-smaller
 loop-smaller g c =
-    let h = c.in-ok-take-step.ensures in
+    let h = c.in_ok-take_step.ensures in
     runs_nearer (g.M.Matroid.meaning c.args.matroid.now) (g.met.M.Matroid.laws c.args.matroid.now) _ (state c.loop.tables) (sheet_proper c.loop.tables.entries) (sourced g.S.Source.meaning g.S.Source.keeps c.loop.source)
     _ _ h.survey h.source _ _ c.loop.invariant.0 c.in-Some.field-0 (ap (λ x. Ok x) (sym c.in-Some.is) ∙ h.answer)
 
 pub loop-preserved : goal.loop-preserved
 loop-preserved g c =
-    let h = c.in-ok-take-step.ensures in (
+    let h = c.in_ok-take_step.ensures in (
       runs_more (g.M.Matroid.meaning c.args.matroid.now) (g.met.M.Matroid.laws c.args.matroid.now) _ (state c.loop.tables) (sheet_proper c.loop.tables.entries) (sourced g.S.Source.meaning g.S.Source.keeps c.loop.source)
           _ _ h.survey h.source _ _ c.loop.invariant.0 c.in-Some.field-0 (ap (λ x. Ok x) (sym c.in-Some.is) ∙ h.answer),
-      depth_step (g.M.Matroid.meaning c.args.matroid.now) (state c.loop.tables) (sourced g.S.Source.meaning g.S.Source.keeps c.loop.source) (sourced g.S.Source.meaning g.S.Source.keeps c.take-step.new.source) h.source ∙ c.loop.invariant.1,
+      depth_step (g.M.Matroid.meaning c.args.matroid.now) (state c.loop.tables) (sourced g.S.Source.meaning g.S.Source.keeps c.loop.source) (sourced g.S.Source.meaning g.S.Source.keeps c.take_step.new.source) h.source ∙ c.loop.invariant.1,
     )
 
 pub returns-in-None : goal.returns-in-None
 returns-in-None g c =
-    let h = c.in-ok-take-step.ensures in
+    let h = c.in_ok-take_step.ensures in
     let m = g.M.Matroid.meaning c.args.matroid.now in
     let r = runs_none m (g.met.M.Matroid.laws c.args.matroid.now) _ (state c.loop.tables) (sheet_proper c.loop.tables.entries) (sourced g.S.Source.meaning g.S.Source.keeps c.loop.source)
     _ _ h.survey h.source _ _ c.loop.invariant.0 (ap (λ x. Ok x) (sym c.in-None.is) ∙ h.answer) in
     record {
-      answer = r.2 ∙ ap (λ d. run_reply d (g.S.Source.origin c.take-step.new.source) (run m (state c.args.tables.now) (sourced g.S.Source.meaning g.S.Source.keeps c.args.source.now)).answer) c.loop.invariant.1;
+      answer = r.2 ∙ ap (λ d. run_reply d (g.S.Source.origin c.take_step.new.source) (run m (state c.args.tables.now) (sourced g.S.Source.meaning g.S.Source.keeps c.args.source.now)).answer) c.loop.invariant.1;
       survey = r.0;
       source = r.1;
     }
 
-pub returns-in-err-take-step : goal.returns-in-err-take-step
-returns-in-err-take-step g c =
-    let p = err_from_is_err_and c.from-residual.result c.from-residual.ensures.1 in
-    let h = c.in-err-take-step.ensures in
-    let f = c.in-err-take-step.field-0.0 in
+pub returns-in_err-take_step : goal.returns-in_err-take_step
+returns-in_err-take_step g c =
+    let p = err_from_is_err_and c.from_residual.result c.from_residual.ensures.1 in
+    let h = c.in_err-take_step.ensures in
+    let f = c.in_err-take_step.field-0.0 in
     let m = g.M.Matroid.meaning c.args.matroid.now in
     let r = runs_err m (g.met.M.Matroid.laws c.args.matroid.now) _ (state c.loop.tables) (sheet_proper c.loop.tables.entries) (sourced g.S.Source.meaning g.S.Source.keeps c.loop.source)
     _ _ h.survey h.source _ _ c.loop.invariant.0 (refusal f) h.answer in
     record {
       answer =
           ap (told (λ x. x)) p.1 ∙ (ap (λ x. Err (refusal x)) p.2 ∙
-          (r.2 ∙ ap (λ d. run_reply d (g.S.Source.origin c.take-step.new.source) (run m (state c.args.tables.now) (sourced g.S.Source.meaning g.S.Source.keeps c.args.source.now)).answer) c.loop.invariant.1));
+          (r.2 ∙ ap (λ d. run_reply d (g.S.Source.origin c.take_step.new.source) (run m (state c.args.tables.now) (sourced g.S.Source.meaning g.S.Source.keeps c.args.source.now)).answer) c.loop.invariant.1));
       survey = r.0;
       source = r.1;
     }

@@ -26,8 +26,8 @@ loop-k-preserved c =
     let m : c.loop-k.k < length old = omega arith in
     elim c.if-set-k.branch [
       | then-set-k w ↦ subst Q (sym w.marks-is)
-          (showing_more P old c.loop-k.marks c.loop-k.k w.bit-of.result m c.loop-k.invariant
-          (w.bit-of.ensures ∙ ap (λ (x : Bool). x && bit word (at c.args.table.now.pivots c.loop-k.k)) (sym w.if-set-k.true)))
+          (showing_more P old c.loop-k.marks c.loop-k.k w.bit_of.result m c.loop-k.invariant
+          (w.bit_of.ensures ∙ ap (λ (x : Bool). x && bit word (at c.args.table.now.pivots c.loop-k.k)) (sym w.if-set-k.true)))
       | else-set-k w ↦ subst Q (sym w.marks-is)
           (showing_skip P old c.loop-k.marks c.loop-k.k c.loop-k.invariant (λ d. get_or-replicate all_marks c.loop-k.k false d l
           ∙ ap (λ (x : Bool). x && bit word (at c.args.table.now.pivots c.loop-k.k)) (sym w.if-set-k.false)))

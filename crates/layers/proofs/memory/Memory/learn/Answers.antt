@@ -6,8 +6,8 @@ pub returns : goal.returns
 returns g c =
     let m = c.args.self.now in
     let e = c.args.element in
-    let p = c.in-ok-price.price in
-    let came = c.in-ok-price.ensures in
+    let p = c.in_ok-price.price in
+    let came = c.in_ok-price.ensures in
     let σ = g.S.Source.meaning m.below in
     let τ = g.S.Source.meaning c.price.new.self in
     let before = tabled m.remembered in

@@ -5,10 +5,10 @@ use Rattle.survey.proofs.surveys.Survey.report.Goals as goal
 
 pub returns : goal.returns
 returns g c =
-    let h = c.show-settled.ensures in
+    let h = c.show_settled.ensures in
     let x = c.args.self.now in
     record {
       answer = h.answer;
       marks = h.marks;
-      promise = assures (g.M.Matroid.meaning x.matroid) (g.met.M.Matroid.laws x.matroid) h.small (state x.tables) c.args.marks.now c.show-settled.new.marks (told (λ v. v) c.show-settled.result) h.answer h.marks;
+      promise = assures (g.M.Matroid.meaning x.matroid) (g.met.M.Matroid.laws x.matroid) h.small (state x.tables) c.args.marks.now c.show_settled.new.marks (told (λ v. v) c.show_settled.result) h.answer h.marks;
     }

@@ -7,7 +7,7 @@ use Rattle.survey.proofs.surveys.Survey.run.Goals as goal
 
 pub returns : goal.returns
 returns g c =
-    let h = c.run-steps.ensures in
+    let h = c.run_steps.ensures in
     let x = c.args.self.now in
     let m = g.M.Matroid.meaning x.matroid in
     let laws = g.met.M.Matroid.laws x.matroid in

@@ -2,8 +2,8 @@ use Rattle.std.proofs.Common.{◌≡◌, ◌<◌, length, vec_len, ◌∙◌, ar
 use Rattle.survey.proofs.Paying.{room_left, room_kept}
 use Rattle.survey.proofs.tables.Tables.pay.Goals as goal
 
-pub push-reserved-requires : goal.push-reserved-requires
-push-reserved-requires c =
+pub push_reserved-requires : goal.push_reserved-requires
+push_reserved-requires c =
     let t = c.args.self.now in
     omega (arith, room_left t.entries (vec_len t.lines) c.args.element c.args.price t.room (omega (arith, t.places)) c.requires, t.rows, t.places)
 
@@ -12,7 +12,7 @@ invariant-of-self c =
     let t = c.args.self.now in (
       length-set _ _ _ ∙ t.places,
       (
-        omega (arith, t.rows, c.push-reserved.ensures.capacity),
-        (omega (arith, room_kept t.entries (vec_len t.lines) c.args.element c.args.price t.room (omega (arith, t.places)) c.requires, c.push-reserved.ensures.len), tt),
+        omega (arith, t.rows, c.push_reserved.ensures.capacity),
+        (omega (arith, room_kept t.entries (vec_len t.lines) c.args.element c.args.price t.room (omega (arith, t.places)) c.requires, c.push_reserved.ensures.len), tt),
       ),
     )
