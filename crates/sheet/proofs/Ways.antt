@@ -1,6 +1,6 @@
 -- The ways through the sections of a sheet. Assumes nothing.
-use Rattle.std.proofs.Common.{◌≡◌, ℕ, zero, suc, ◌-◌, ◌<◌, ◌≤◌, List, [], ◌∷◌, ◌++◌, map, length, get_or, Some, None, Err, Option, Result, sym, refl, ap, ◌∙◌, subst, arith, MutBor, MatchOption}
-use Rattle.std.specs.List.{ItemMut, HoldsAt}
+use Rattle.std.proofs.Common.{◌≡◌, ℕ, zero, suc, ◌-◌, ◌<◌, ◌≤◌, List, [], ◌∷◌, ◌++◌, map, length, get_or, Some, None, Err, Option, Result, sym, refl, ap, ◌∙◌, subst, arith, Bor, MatchOption}
+use Rattle.std.specs.List.{IsGetResult, HoldsAt}
 use Rattle.std.proofs.lemmas.List.{append_assoc, append-nil}
 use Rattle.form.specs.Sheets.{Element, Recorded, Body, most_lines}
 use Rattle.form.specs.Reading.{Tail, counted, element_line, recorded_line, body, Got, got, stop, Step, and_then, done, repeated}
@@ -80,10 +80,10 @@ at_last : {X A : Type 0} (value : X → A) (x y : X) (ys : List X) → x ≡ get
 at_last value x y [] e = ap (λ v. Some (value v)) e
 at_last value x y (z ∷ zs) e = at_last value x z zs e
 
-pub last_is : {X A : Type 0} (value : X → A) (xs ys : List X) (r : Option (MutBor X)) → ys ≡ xs → ItemMut ys 0 (length ys - 1) r → before_of value r ≡ last_of (map value xs)
+pub last_is : {X A : Type 0} (value : X → A) (xs ys : List X) (r : Option (Bor X)) → ys ≡ xs → IsGetResult ys 0 (length ys - 1) r → before_of value r ≡ last_of (map value xs)
 last_is {X} value xs ys r e i = subst (λ (l : List X). before_of value r ≡ last_of (map value l)) e (go ys r i.3)
   where
-    go : (ys : List X) (r : Option (MutBor X)) → MatchOption r (length ys ≤ 0) (λ x. (0 < length ys) × HoldsAt (λ y. x.now ≡ y) ys (length ys - 1)) → before_of value r ≡ last_of (map value ys)
+    go : (ys : List X) (r : Option (Bor X)) → MatchOption r (length ys ≤ 0) (λ x. (0 < length ys) × HoldsAt (λ y. x.now ≡ y) ys (length ys - 1)) → before_of value r ≡ last_of (map value ys)
     go [] None h = refl
     go [] (Some x) h = absurd (omega arith)
     go (y ∷ ys) None h = absurd (omega arith)

@@ -9,11 +9,11 @@ returns-in-48-to-57 c = not_lead c.args.field.now c.loop-i.i c.loop-i.value c.lo
 pub returns-in-48-to-57-2 : goal.returns-in-48-to-57-2
 returns-in-48-to-57-2 c = not_small c.args.field.now c.loop-i.i c.loop-i.value c.loop-i.invariant.0 (omega arith) (omega arith)
 
-pub returns-in-default : goal.returns-in-default
-returns-in-default c = not_low c.args.field.now c.loop-i.i c.loop-i.value c.loop-i.invariant.0 (omega arith) (omega arith)
+pub returns-in_default : goal.returns-in_default
+returns-in_default c = not_low c.args.field.now c.loop-i.i c.loop-i.value c.loop-i.invariant.0 (omega arith) (omega arith)
 
-pub returns-in-default·2 : goal.returns-in-default·2
-returns-in-default·2 c = not_high c.args.field.now c.loop-i.i c.loop-i.value c.loop-i.invariant.0 (omega arith) (omega arith)
+pub returns-in_default-2 : goal.returns-in_default-2
+returns-in_default-2 c = not_high c.args.field.now c.loop-i.i c.loop-i.value c.loop-i.invariant.0 (omega arith) (omega arith)
 
 pub loop-i-preserved : goal.loop-i-preserved
 loop-i-preserved c = (

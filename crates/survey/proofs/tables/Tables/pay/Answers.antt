@@ -7,12 +7,11 @@ push_reserved-requires c =
     let t = c.args.self.now in
     omega (arith, room_left t.entries (vec_len t.lines) c.args.element c.args.price t.room (omega (arith, t.places)) c.requires, t.rows, t.places)
 
-pub invariant-of-self : goal.invariant-of-self
-invariant-of-self c =
-    let t = c.args.self.now in (
-      length-set _ _ _ ∙ t.places,
-      (
-        omega (arith, t.rows, c.push_reserved.ensures.capacity),
-        (omega (arith, room_kept t.entries (vec_len t.lines) c.args.element c.args.price t.room (omega (arith, t.places)) c.requires, c.push_reserved.ensures.len), tt),
-      ),
-    )
+pub invariant_of-self : goal.invariant_of-self
+invariant_of-self c =
+    let t = c.args.self.now in
+    record {
+      places = length-set _ _ _ ∙ t.places;
+      rows = omega (arith, t.rows, c.push_reserved.ensures.capacity);
+      room = omega (arith, room_kept t.entries (vec_len t.lines) c.args.element c.args.price t.room (omega (arith, t.places)) c.requires, c.push_reserved.ensures.len);
+    }
