@@ -1,6 +1,8 @@
 -- The ways through the sections of a sheet. Assumes nothing.
-use Rattle.std.proofs.Common.{◌≡◌, ℕ, zero, suc, ◌-◌, ◌<◌, ◌≤◌, List, [], ◌∷◌, ◌++◌, map, length, get_or, Some, None, Err, Option, Result, sym, refl, ap, ◌∙◌, subst, arith, Bor, MatchOption}
-use Rattle.std.specs.List.{IsGetResult, HoldsAt}
+use Rattle.std.proofs.Common.{◌≡◌, ℕ, zero, suc, ◌-◌, ◌<◌, ◌≤◌, List, [], ◌∷◌, ◌++◌, map, length, get_or, Some, None, Err, Option, Result, sym, refl, ap, ◌∙◌, subst, arith, MatchOption}
+use Rattle.std.specs.Borrow.{Bor}
+use Rattle.std.specs.List.{HoldsAt}
+use Rattle.std.specs.Slice.{IsGetResult}
 use Rattle.std.proofs.lemmas.List.{append_assoc, append-nil}
 use Rattle.form.specs.Sheets.{Element, Recorded, Body, most_lines}
 use Rattle.form.specs.Reading.{Tail, counted, element_line, recorded_line, body, Got, got, stop, Step, and_then, done, repeated}
