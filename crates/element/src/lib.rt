@@ -1,4 +1,5 @@
 // The numbers that everything else goes by: elements, their prices, and the marks that stand for a set of elements.
+#![tactic(auto)]
 
 // An element's number.
 pub type Element = u8;

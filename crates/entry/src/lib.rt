@@ -1,4 +1,6 @@
 // What is known of an element's price: the price, or an open range that it lies in.
+#![tactic(auto)]
+
 ghost use Rattle.std.specs.Prelude.{◌≡◌, ◌<◌, if◌then◌else◌, Ok, Err, nat_lt};
 ghost use Rattle.fault.specs.Refusals.{told, refused};
 ghost use Rattle.entry.specs.Entries.{low, high, known, inside, Range as ARange, Known as AKnown};

@@ -1,4 +1,6 @@
 // Every way in which a call declines, with its number, its place and its depth.
+#![tactic(auto)]
+
 ghost use Rattle.std.specs.Prelude.{◌≡◌, Some};
 ghost use Rattle.fault.specs.Refusals.{refusal};
 ghost use Rattle.fault.specs.Words.{sentence};

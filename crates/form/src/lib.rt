@@ -1,4 +1,6 @@
 // The form of a sheet: how one is written as bytes, which sheets are legal, and how bytes are checked. All of it is definitions and theorems.
+#![tactic(auto)]
+
 ghost use Rattle.std.specs.Prelude.{◌≡◌, true};
 ghost use Rattle.form.specs.Theorem.{AcceptsTheWritten, ReadsBack, OneSheet};
 

@@ -1,6 +1,4 @@
 use plan::plan;
-use std::alloc::Global;
-use std::process::Abort;
 use std::test::Fail;
 
 // A sheet, and the plan that is expected of it.
@@ -92,17 +90,11 @@ const EXAMPLES: [Example; 16] = [
     },
 ];
 
-// The sheet has the plan.
-fn plans(rt: &impl Abort, heap: Global, example: &Example) -> Result<(), Fail> {
-    let text = plan(heap, example.sheet.as_bytes())?;
-    assert!(rt; text.as_slice() == example.plan.as_bytes());
-    Ok(())
-}
-
 #[test]
 fn examples(rt: HostRuntime) -> Result<(), Fail> {
     for example in &EXAMPLES {
-        plans(&rt, rt.alloc(), example).note(example.sheet)?;
+        let (sheet, text) = (example.sheet, example.plan);
+        assert!(rt; plan(rt.alloc(), sheet.as_bytes())?.as_slice() == text.as_bytes(), "{sheet}");
     }
     Ok(())
 }

@@ -1,6 +1,5 @@
 use sheet::read;
 use std::alloc::Global;
-use std::process::Abort;
 
 // A text, and the number and the line that it is refused with.
 type Case = (&'static str, u8, u32);
@@ -122,21 +121,20 @@ pub(crate) fn refusal(heap: Global, bytes: &[u8]) -> Option<Refusal> {
     }
 }
 
-fn all_refused(rt: &impl Abort, heap: Global, cases: &[Case]) {
+// The first of the texts that is not refused so.
+fn misjudged(heap: Global, cases: &[Case]) -> Option<&'static str> {
     for (text, number, line) in cases {
-        assert_eq!(rt;
-            refusal(heap, text.as_bytes()),
-            Some((*number, *line, 0)),
-            "{}",
-            *text
-        );
+        if refusal(heap, text.as_bytes()) != Some((*number, *line, 0)) {
+            return Some(*text);
+        }
     }
+    None
 }
 
 #[test]
 fn refuses(rt: HostRuntime) {
-    all_refused(&rt, rt.alloc(), &HEADINGS);
-    all_refused(&rt, rt.alloc(), &PLACES);
-    all_refused(&rt, rt.alloc(), &ELEMENTS);
-    all_refused(&rt, rt.alloc(), &RECORDS);
+    assert_eq!(rt; misjudged(rt.alloc(), &HEADINGS), None);
+    assert_eq!(rt; misjudged(rt.alloc(), &PLACES), None);
+    assert_eq!(rt; misjudged(rt.alloc(), &ELEMENTS), None);
+    assert_eq!(rt; misjudged(rt.alloc(), &RECORDS), None);
 }

@@ -1,6 +1,6 @@
+use fault::Fault;
 use sheet::{read, write};
 use std::alloc::Global;
-use std::process::Abort;
 use std::test::Fail;
 
 // Sheets that are read, and written out again as they were.
@@ -29,18 +29,16 @@ const SHEETS: [&'static str; 14] = [
     "words 1\n1\nz\n3\nk 1 1\nk 1 0\nk 1 1\n2\n0 1\n2 1\n",
 ];
 
-// The bytes are a sheet, which is written as they are.
-pub(crate) fn back_again(rt: &impl Abort, heap: Global, bytes: &[u8]) -> Result<(), Fail> {
+// Whether the bytes are a sheet, which is written as they are.
+pub(crate) fn back_again(heap: Global, bytes: &[u8]) -> Result<bool, Fault> {
     let sheet = read(heap, bytes)?;
-    let text = write(heap, &sheet)?;
-    assert!(rt; text.as_slice() == bytes);
-    Ok(())
+    Ok(write(heap, &sheet)?.as_slice() == bytes)
 }
 
 #[test]
 fn accepts(rt: HostRuntime) -> Result<(), Fail> {
     for text in &SHEETS {
-        back_again(&rt, rt.alloc(), text.as_bytes()).note(*text)?;
+        assert!(rt; back_again(rt.alloc(), text.as_bytes())?, "{text}");
     }
     Ok(())
 }

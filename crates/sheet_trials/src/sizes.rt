@@ -53,7 +53,7 @@ fn sizes(rt: HostRuntime) -> Result<(), Fail> {
         let bytes = lamps(rt.alloc(), *many, *elements, *records)?;
         assert_eq!(rt; refusal(rt.alloc(), &bytes), *answer);
         if answer.is_none() {
-            back_again(&rt, rt.alloc(), &bytes)?;
+            assert!(rt; back_again(rt.alloc(), &bytes)?);
         }
     }
     Ok(())

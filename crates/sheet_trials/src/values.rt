@@ -3,7 +3,6 @@ use entry::Entry;
 use fault::Fault;
 use kinds::Route;
 use sheet::{Body, ByKind, Lot, Sheet, read};
-use std::process::Abort;
 use std::test::Fail;
 
 // One sheet of each kind, as the functions below tell it.
@@ -13,48 +12,45 @@ const TEXTS: [&'static str; 3] = [
     "words 3\n2\nred\nblue\n1\nr 3 5 01\n0\n",
 ];
 
-fn has_routes(rt: &impl Abort, body: &Body<&[u8], Route>) -> Result<(), Fail> {
-    assert_eq!(rt; body.allowance, 9);
-    assert!(rt; body.places.len() == 3 && body.elements.len() == 3 && body.recorded.len() == 3);
-    assert_eq!(rt; body.places[2], b"c");
+fn has_routes(body: &Body<&[u8], Route>) -> bool {
+    if body.places.len() != 3 || body.elements.len() != 3 || body.recorded.len() != 3 {
+        return false;
+    }
     let (entry, route) = (body.elements[2].entry, body.elements[2].tail);
-    assert_eq!(rt;
-        (entry.low(), entry.high(), entry.is_known()),
-        (4, 9, false)
-    );
-    assert_eq!(rt; (route.from, route.to), (0, 2));
-    assert_eq!(rt; (body.recorded[2].element, body.recorded[2].price), (2, 5));
-    Ok(())
+    body.allowance == 9
+        && body.places[2] == b"c"
+        && (entry.low(), entry.high(), entry.is_known()) == (4, 9, false)
+        && (route.from, route.to) == (0, 2)
+        && (body.recorded[2].element, body.recorded[2].price) == (2, 5)
 }
 
-fn has_lots(rt: &impl Abort, body: &Body<Lot, Place>) -> Result<(), Fail> {
-    assert_eq!(rt; body.allowance, 2);
-    assert!(rt; body.places.len() == 2 && body.elements.len() == 1 && body.recorded.is_empty());
-    assert_eq!(rt; body.places[1].name, b"path");
-    assert_eq!(rt; (body.places[1].cap, body.elements[0].tail), (7, 1));
+fn has_lots(body: &Body<Lot, Place>) -> bool {
+    if body.places.len() != 2 || body.elements.len() != 1 || !body.recorded.is_empty() {
+        return false;
+    }
     let entry = body.elements[0].entry;
-    assert_eq!(rt; (entry.low(), entry.high(), entry.is_known()), (5, 5, true));
-    Ok(())
+    body.allowance == 2
+        && body.places[1].name == b"path"
+        && (body.places[1].cap, body.elements[0].tail) == (7, 1)
+        && (entry.low(), entry.high(), entry.is_known()) == (5, 5, true)
 }
 
-fn has_words(rt: &impl Abort, body: &Body<&[u8], &[u8]>) -> Result<(), Fail> {
-    assert_eq!(rt; body.allowance, 3);
-    assert!(rt; body.places.len() == 2 && body.elements.len() == 1 && body.recorded.is_empty());
-    assert_eq!(rt; body.places[1], b"blue");
-    assert_eq!(rt; body.elements[0].tail, b"01");
+fn has_words(body: &Body<&[u8], &[u8]>) -> bool {
+    if body.places.len() != 2 || body.elements.len() != 1 || !body.recorded.is_empty() {
+        return false;
+    }
     let entry = body.elements[0].entry;
-    assert_eq!(rt;
-        (entry.low(), entry.high(), entry.is_known()),
-        (3, 5, false)
-    );
-    Ok(())
+    body.allowance == 3
+        && body.places[1] == b"blue"
+        && body.elements[0].tail == b"01"
+        && (entry.low(), entry.high(), entry.is_known()) == (3, 5, false)
 }
 
-fn has_values(rt: &impl Abort, sheet: &Sheet) -> Result<(), Fail> {
+fn has_values(sheet: &Sheet) -> bool {
     match sheet {
-        ByKind::Routes(body) => has_routes(rt, body),
-        ByKind::Lots(body) => has_lots(rt, body),
-        ByKind::Words(body) => has_words(rt, body),
+        ByKind::Routes(body) => has_routes(body),
+        ByKind::Lots(body) => has_lots(body),
+        ByKind::Words(body) => has_words(body),
     }
 }
 
@@ -62,7 +58,7 @@ fn has_values(rt: &impl Abort, sheet: &Sheet) -> Result<(), Fail> {
 fn reads(rt: HostRuntime) -> Result<(), Fail> {
     for text in &TEXTS {
         let sheet = read(rt.alloc(), text.as_bytes())?;
-        has_values(&rt, &sheet).note(*text)?;
+        assert!(rt; has_values(&sheet), "{text}");
     }
     Ok(())
 }

@@ -6,7 +6,6 @@ use element::{Element, Line, Price};
 use fault::Fault;
 use layers::{Memory, Quota};
 use source::{Record, Source, Table};
-use std::process::Abort;
 use std::test::Fail;
 
 // A source that has nothing but a depth.
@@ -44,33 +43,19 @@ impl Source for Bare {
     }
 }
 
-// Checks that the answer is the price.
-fn gives(rt: &impl Abort, answer: Result<Price, Fault>, price: Price) -> Result<(), Fail> {
+// Whether the answer is the price.
+fn gives(answer: Result<Price, Fault>, price: Price) -> bool {
     match answer {
-        Ok(given) => {
-            assert_eq!(rt; given, price);
-            Ok(())
-        },
-        Err(_) => Err(Fail::new("a refusal in place of a price")),
+        Ok(given) => given == price,
+        Err(_) => false,
     }
 }
 
-// Checks that the answer is the refusal.
-fn refuses(
-    rt: &impl Abort,
-    answer: Result<Price, Fault>,
-    number: u8,
-    place: u32,
-    depth: u8,
-) -> Result<(), Fail> {
+// Whether the answer is the refusal.
+fn refuses(answer: Result<Price, Fault>, number: u8, place: u32, depth: u8) -> bool {
     match answer {
-        Ok(_) => Err(Fail::new("a price in place of a refusal")),
-        Err(fault) => {
-            assert_eq!(rt; fault.number(), number);
-            assert_eq!(rt; fault.place(), place);
-            assert_eq!(rt; fault.depth(), depth);
-            Ok(())
-        }
+        Ok(_) => false,
+        Err(fault) => (fault.number(), fault.place(), fault.depth()) == (number, place, depth),
     }
 }
 
@@ -85,10 +70,10 @@ fn two_prices() -> Table {
 #[test]
 fn plain_sources(rt: HostRuntime) -> Result<(), Fail> {
     let mut table = two_prices();
-    gives(&rt, table.price(3), 7)?;
-    refuses(&rt, table.price(255), 11, 255, 0)?;
+    assert!(rt; gives(table.price(3), 7));
+    assert!(rt; refuses(table.price(255), 11, 255, 0));
     table.set(3, None);
-    refuses(&rt, table.price(3), 11, 3, 0)?;
+    assert!(rt; refuses(table.price(3), 11, 3, 0));
     assert_eq!(rt; table.left(), None);
     assert!(rt; !table.free(4));
     let lines = [
@@ -102,9 +87,9 @@ fn plain_sources(rt: HostRuntime) -> Result<(), Fail> {
         },
     ];
     let mut record = Record::new(&lines);
-    gives(&rt, record.price(6), 0)?;
-    refuses(&rt, record.price(3), 11, 3, 0)?;
-    gives(&rt, record.price(2), 5)?;
+    assert!(rt; gives(record.price(6), 0));
+    assert!(rt; refuses(record.price(3), 11, 3, 0));
+    assert!(rt; gives(record.price(2), 5));
     assert_eq!(rt; record.depth(), 0);
     Ok(())
 }
@@ -113,11 +98,11 @@ fn plain_sources(rt: HostRuntime) -> Result<(), Fail> {
 fn memory_over_quota_over_table(rt: HostRuntime) -> Result<(), Fail> {
     let mut memory = Memory::new(Quota::new(two_prices(), 1));
     assert_eq!(rt; memory.depth(), 2);
-    gives(&rt, memory.price(3), 7)?;
+    assert!(rt; gives(memory.price(3), 7));
     assert_eq!(rt; memory.left(), Some(0));
     assert!(rt; memory.free(3) && !memory.free(4));
-    gives(&rt, memory.price(3), 7).note("a remembered price is free")?;
-    refuses(&rt, memory.price(4), 12, 4, 1).note("a fresh one is not")?;
+    assert!(rt; gives(memory.price(3), 7), "a remembered price is free");
+    assert!(rt; refuses(memory.price(4), 12, 4, 1), "a fresh one is not");
     assert_eq!(rt; memory.into_below().number(), 0);
     Ok(())
 }
@@ -135,14 +120,14 @@ fn quota_over_memory_over_record(rt: HostRuntime) -> Result<(), Fail> {
         },
     ];
     let mut quota = Quota::new(Memory::new(Record::new(&lines)), 1);
-    gives(&rt, quota.price(2), 5)?;
+    assert!(rt; gives(quota.price(2), 5));
     assert_eq!(rt; quota.left(), Some(0));
-    gives(&rt, quota.price(2), 5).note("free below")?;
-    refuses(&rt, quota.price(9), 12, 9, 2)?;
+    assert!(rt; gives(quota.price(2), 5), "free below");
+    assert!(rt; refuses(quota.price(9), 12, 9, 2));
     quota.raise(1);
-    refuses(&rt, quota.price(9), 11, 9, 0)?;
+    assert!(rt; refuses(quota.price(9), 11, 9, 0));
     assert_eq!(rt; quota.number(), 1, "a refusal costs nothing");
-    gives(&rt, quota.price(6), 8)?;
+    assert!(rt; gives(quota.price(6), 8));
     assert_eq!(rt; quota.number(), 0);
     Ok(())
 }
@@ -151,12 +136,12 @@ fn quota_over_memory_over_record(rt: HostRuntime) -> Result<(), Fail> {
 fn quotas_over_quotas(rt: HostRuntime) -> Result<(), Fail> {
     let mut quota = Quota::new(Quota::new(two_prices(), 1), 3);
     assert_eq!(rt; quota.left(), Some(1));
-    gives(&rt, quota.price(4), 9)?;
+    assert!(rt; gives(quota.price(4), 9));
     assert_eq!(rt; quota.number(), 2);
-    refuses(&rt, quota.price(3), 12, 3, 1).note("the one below refuses")?;
+    assert!(rt; refuses(quota.price(3), 12, 3, 1), "the one below refuses");
     assert_eq!(rt; quota.into_below().number(), 0);
     let mut narrow = Quota::new(Quota::new(two_prices(), 3), 0);
-    refuses(&rt, narrow.price(3), 12, 3, 2)?;
+    assert!(rt; refuses(narrow.price(3), 12, 3, 2));
     assert_eq!(rt; narrow.into_below().number(), 3);
     Ok(())
 }
@@ -165,10 +150,10 @@ fn quotas_over_quotas(rt: HostRuntime) -> Result<(), Fail> {
 fn depth_stays_at_255(rt: HostRuntime) -> Result<(), Fail> {
     let mut low = Memory::new(Bare { depth: 254 });
     assert_eq!(rt; low.depth(), 255);
-    refuses(&rt, low.price(1), 11, 1, 254)?;
+    assert!(rt; refuses(low.price(1), 11, 1, 254));
     let mut high = Quota::new(low, 0);
     assert_eq!(rt; high.depth(), 255);
-    refuses(&rt, high.price(1), 12, 1, 255)?;
+    assert!(rt; refuses(high.price(1), 12, 1, 255));
     assert_eq!(rt; Memory::new(high).depth(), 255);
     Ok(())
 }
@@ -180,7 +165,7 @@ fn raise_stops_at_the_limit(rt: HostRuntime) -> Result<(), Fail> {
     assert_eq!(rt; quota.number(), 4294967295);
     quota.raise(1);
     assert_eq!(rt; quota.number(), 4294967295);
-    gives(&rt, quota.price(3), 7)?;
+    assert!(rt; gives(quota.price(3), 7));
     assert_eq!(rt; quota.left(), Some(4294967294));
     Ok(())
 }

@@ -11,7 +11,6 @@ use requests::{Request, conduct};
 use routes::Routes;
 use source::{Source, Table};
 use std::alloc::Global;
-use std::process::Abort;
 use std::test::Fail;
 use survey::Survey;
 
@@ -85,57 +84,38 @@ fn quota(third: Price, number: u32) -> Quota<Table> {
     Quota::new(prices(4, 6, third), number)
 }
 
-// Checks that the answer is the refusal.
-fn refuses<T: Drop>(
-    rt: &impl Abort,
-    answer: Result<T, Fault>,
-    number: u8,
-    place: u32,
-    depth: u8,
-) -> Result<(), Fail> {
+// Whether the answer is the refusal.
+fn refuses<T: Drop>(answer: Result<T, Fault>, number: u8, place: u32, depth: u8) -> bool {
     match answer {
-        Ok(_) => Err(Fail::new("no refusal")),
-        Err(fault) => {
-            assert_eq!(rt; fault.number(), number);
-            assert_eq!(rt; fault.place(), place);
-            assert_eq!(rt; fault.depth(), depth);
-            Ok(())
-        }
+        Ok(_) => false,
+        Err(fault) => (fault.number(), fault.place(), fault.depth()) == (number, place, depth),
     }
 }
 
-// Checks that a step pays the price for the element.
+// Whether a step pays the price for the element.
 fn step_pays<S: Source>(
-    rt: &impl Abort,
     survey: &mut Survey<Routes>,
     source: &mut S,
     element: Element,
     price: Price,
-) -> Result<(), Fail> {
-    assert_eq!(rt; survey.step(source)?, Some(Line { element, price }));
-    Ok(())
+) -> Result<bool, Fault> {
+    Ok(survey.step(source)? == Some(Line { element, price }))
 }
 
-// Checks that a step has nothing to do.
-fn step_rests<S: Source>(
-    rt: &impl Abort,
-    survey: &mut Survey<Routes>,
-    source: &mut S,
-) -> Result<(), Fail> {
-    assert_eq!(rt; survey.step(source)?, None);
-    Ok(())
+// Whether a step has nothing to do.
+fn step_rests<S: Source>(survey: &mut Survey<Routes>, source: &mut S) -> Result<bool, Fault> {
+    Ok(survey.step(source)?.is_none())
 }
 
-// Checks that a step is refused so.
+// Whether a step is refused so.
 fn step_refuses<S: Source>(
-    rt: &impl Abort,
     survey: &mut Survey<Routes>,
     source: &mut S,
     number: u8,
     place: u32,
     depth: u8,
-) -> Result<(), Fail> {
-    refuses(rt, survey.step(source), number, place, depth)
+) -> bool {
+    refuses(survey.step(source), number, place, depth)
 }
 
 // Checks that a run comes to its end.
@@ -143,69 +123,64 @@ fn run_finishes<S: Source>(survey: &mut Survey<Routes>, source: &mut S) -> Resul
     Ok(survey.run(source)?)
 }
 
-// Checks that a run is refused so.
+// Whether a run is refused so.
 fn run_refuses<S: Source>(
-    rt: &impl Abort,
     survey: &mut Survey<Routes>,
     source: &mut S,
     number: u8,
     place: u32,
     depth: u8,
-) -> Result<(), Fail> {
-    refuses(rt, survey.run(source), number, place, depth)
+) -> bool {
+    refuses(survey.run(source), number, place, depth)
 }
 
-// Checks that a report into marks that are all set is refused so, and leaves them.
-fn report_refuses(
-    rt: &impl Abort,
-    survey: &Survey<Routes>,
-    marks: &mut [bool],
-    number: u8,
-) -> Result<(), Fail> {
-    refuses(rt, survey.report(marks), number, 0, 0)?;
-    for mark in marks {
-        assert!(rt; *mark);
-    }
-    Ok(())
+// Whether a report into marks that are all set is refused so, and leaves them.
+fn report_refuses(survey: &Survey<Routes>, marks: &mut [bool], number: u8) -> bool {
+    refuses(survey.report(marks), number, 0, 0) && marks.iter().all(|mark| *mark)
 }
 
-// Checks the whole ledger, and that no line follows it.
-fn has_paid(rt: &impl Abort, survey: &Survey<Routes>, lines: &[(Element, Price)]) {
-    assert_eq!(rt; survey.ledger().len(), lines.len());
+// Whether this is the whole ledger, and no line follows it.
+fn has_paid(survey: &Survey<Routes>, lines: &[(Element, Price)]) -> bool {
     for i in 0..lines.len() {
         let (element, price) = lines[i];
-        assert_eq!(rt; survey.line(i), Some(Line { element, price }));
+        if survey.line(i) != Some(Line { element, price }) {
+            return false;
+        }
     }
-    assert_eq!(rt; survey.line(lines.len()), None);
+    survey.ledger().len() == lines.len() && survey.line(lines.len()).is_none()
 }
 
-// Checks the base that is shown, and that the mark beyond those of a set stays.
-fn keeps(rt: &impl Abort, survey: &Survey<Routes>, kept: [bool; 3]) -> Result<(), Fail> {
+// Whether this is the base that is shown, and the mark beyond those of a set stays.
+fn keeps(survey: &Survey<Routes>, kept: [bool; 3]) -> Result<bool, Fault> {
     let mut marks = [true; 257];
     survey.report(&mut marks)?;
     for (i, mark) in marks.iter().enumerate() {
-        assert_eq!(rt; *mark, i == MARKS || i < 3 && kept[i]);
+        if *mark != (i == MARKS || i < 3 && kept[i]) {
+            return Ok(false);
+        }
     }
-    Ok(())
+    Ok(true)
 }
 
 #[test]
 fn three_pits(rt: HostRuntime) -> Result<(), Fail> {
     let mut survey = survey_of_triangle(rt.alloc())?;
     run_finishes(&mut survey, &mut quota(5, 3))?;
-    has_paid(&rt, &survey, &[(2, 5), (0, 4), (1, 6)]);
-    keeps(&rt, &survey, [true, false, true])?;
-    step_rests(&rt, &mut survey, &mut Table::new())
+    assert!(rt; has_paid(&survey, &[(2, 5), (0, 4), (1, 6)]));
+    assert!(rt; keeps(&survey, [true, false, true])?);
+    assert!(rt; step_rests(&mut survey, &mut Table::new())?);
+    Ok(())
 }
 
 #[test]
 fn allowance_of_two(rt: HostRuntime) -> Result<(), Fail> {
     let mut survey = survey_of_triangle(rt.alloc())?;
-    run_refuses(&rt, &mut survey, &mut quota(5, 2), 12, 1, 1)?;
-    has_paid(&rt, &survey, &[(2, 5), (0, 4)]);
-    report_refuses(&rt, &survey, &mut [true; MARKS], 13)?;
+    assert!(rt; run_refuses(&mut survey, &mut quota(5, 2), 12, 1, 1));
+    assert!(rt; has_paid(&survey, &[(2, 5), (0, 4)]));
+    assert!(rt; report_refuses(&survey, &mut [true; MARKS], 13));
     run_finishes(&mut survey, &mut quota(5, 1))?;
-    keeps(&rt, &survey, [true, false, true])
+    assert!(rt; keeps(&survey, [true, false, true])?);
+    Ok(())
 }
 
 // One price settles the walk, and the pending element is not asked for.
@@ -213,27 +188,28 @@ fn allowance_of_two(rt: HostRuntime) -> Result<(), Fail> {
 fn one_pit(rt: HostRuntime) -> Result<(), Fail> {
     let mut survey = survey_of_triangle(rt.alloc())?;
     let mut source = quota(8, 9);
-    step_pays(&rt, &mut survey, &mut source, 2, 8)?;
-    step_rests(&rt, &mut survey, &mut source)?;
+    assert!(rt; step_pays(&mut survey, &mut source, 2, 8)?);
+    assert!(rt; step_rests(&mut survey, &mut source)?);
     run_finishes(&mut survey, &mut source)?;
     assert_eq!(rt; source.number(), 8);
     assert!(rt; !survey.entry(0).is_known());
-    has_paid(&rt, &survey, &[(2, 8)]);
-    keeps(&rt, &survey, [true, true, false])?;
-    report_refuses(&rt, &survey, &mut [true; 255], 14)
+    assert!(rt; has_paid(&survey, &[(2, 8)]));
+    assert!(rt; keeps(&survey, [true, true, false])?);
+    assert!(rt; report_refuses(&survey, &mut [true; 255], 14));
+    Ok(())
 }
 
 #[test]
 fn pending_kept_over_refusals(rt: HostRuntime) -> Result<(), Fail> {
     let mut survey = survey_of_triangle(rt.alloc())?;
     let mut source = quota(5, 1);
-    step_pays(&rt, &mut survey, &mut source, 2, 5)?;
-    step_refuses(&rt, &mut survey, &mut source, 12, 0, 1)?;
-    step_refuses(&rt, &mut survey, &mut prices(6, 6, 5), 10, 0, 1)?;
-    run_refuses(&rt, &mut survey, &mut Table::new(), 11, 0, 0)?;
-    has_paid(&rt, &survey, &[(2, 5)]);
+    assert!(rt; step_pays(&mut survey, &mut source, 2, 5)?);
+    assert!(rt; step_refuses(&mut survey, &mut source, 12, 0, 1));
+    assert!(rt; step_refuses(&mut survey, &mut prices(6, 6, 5), 10, 0, 1));
+    assert!(rt; run_refuses(&mut survey, &mut Table::new(), 11, 0, 0));
+    assert!(rt; has_paid(&survey, &[(2, 5)]));
     source.raise(1);
-    step_pays(&rt, &mut survey, &mut source, 0, 4)?;
+    assert!(rt; step_pays(&mut survey, &mut source, 0, 4)?);
     assert_eq!(rt; source.number(), 0);
     Ok(())
 }
@@ -243,26 +219,27 @@ fn pending_kept_over_refusals(rt: HostRuntime) -> Result<(), Fail> {
 fn pending_noted(rt: HostRuntime) -> Result<(), Fail> {
     let mut survey = survey_of_triangle(rt.alloc())?;
     let mut source = quota(5, 2);
-    step_pays(&rt, &mut survey, &mut source, 2, 5)?;
+    assert!(rt; step_pays(&mut survey, &mut source, 2, 5)?);
     survey.note(0, 4)?;
-    step_pays(&rt, &mut survey, &mut source, 1, 6)?;
-    step_rests(&rt, &mut survey, &mut source)?;
-    has_paid(&rt, &survey, &[(2, 5), (1, 6)]);
-    keeps(&rt, &survey, [true, false, true])
+    assert!(rt; step_pays(&mut survey, &mut source, 1, 6)?);
+    assert!(rt; step_rests(&mut survey, &mut source)?);
+    assert!(rt; has_paid(&survey, &[(2, 5), (1, 6)]));
+    assert!(rt; keeps(&survey, [true, false, true])?);
+    Ok(())
 }
 
 #[test]
 fn notes(rt: HostRuntime) -> Result<(), Fail> {
     let mut survey = survey_of_triangle(rt.alloc())?;
-    refuses(&rt, survey.note(0, 2), 10, 0, 0)?;
-    refuses(&rt, survey.note(0, 6), 10, 0, 0)?;
-    refuses(&rt, survey.note(1, 8), 10, 1, 0)?;
-    refuses(&rt, survey.note(3, 4), 8, 3, 0)?;
+    assert!(rt; refuses(survey.note(0, 2), 10, 0, 0));
+    assert!(rt; refuses(survey.note(0, 6), 10, 0, 0));
+    assert!(rt; refuses(survey.note(1, 8), 10, 1, 0));
+    assert!(rt; refuses(survey.note(3, 4), 8, 3, 0));
     assert!(rt; !survey.entry(0).is_known());
     survey.note(0, 3)?;
     assert!(rt; survey.entry(0).is_known() && survey.entry(0).low() == 3);
-    refuses(&rt, survey.note(0, 3), 9, 0, 0)?;
-    has_paid(&rt, &survey, &[]);
+    assert!(rt; refuses(survey.note(0, 3), 9, 0, 0));
+    assert!(rt; has_paid(&survey, &[]));
     Ok(())
 }
 
@@ -271,12 +248,12 @@ fn notes(rt: HostRuntime) -> Result<(), Fail> {
 fn prices_at_ends(rt: HostRuntime) -> Result<(), Fail> {
     let mut survey = survey_of_triangle(rt.alloc())?;
     let mut pile = Memory::new(quota(4, 1));
-    run_refuses(&rt, &mut survey, &mut pile, 10, 2, 3)?;
+    assert!(rt; run_refuses(&mut survey, &mut pile, 10, 2, 3));
     assert_eq!(rt; pile.left(), Some(0));
-    step_refuses(&rt, &mut survey, &mut Uniform { price: 9 }, 10, 2, 255)?;
-    step_refuses(&rt, &mut survey, &mut Table::new(), 11, 2, 0)?;
+    assert!(rt; step_refuses(&mut survey, &mut Uniform { price: 9 }, 10, 2, 255));
+    assert!(rt; step_refuses(&mut survey, &mut Table::new(), 11, 2, 0));
     assert!(rt; !survey.entry(2).is_known());
-    has_paid(&rt, &survey, &[]);
+    assert!(rt; has_paid(&survey, &[]));
     Ok(())
 }
 
@@ -288,8 +265,9 @@ fn memory_over_two_surveys(rt: HostRuntime) -> Result<(), Fail> {
     assert_eq!(rt; memory.left(), Some(0));
     let mut second = survey_of_triangle(rt.alloc())?;
     run_finishes(&mut second, &mut memory)?;
-    has_paid(&rt, &second, &[(2, 5), (0, 4), (1, 6)]);
-    keeps(&rt, &second, [true, false, true])
+    assert!(rt; has_paid(&second, &[(2, 5), (0, 4), (1, 6)]));
+    assert!(rt; keeps(&second, [true, false, true])?);
+    Ok(())
 }
 
 // Elements beyond the list are known at 0, and entries beyond the elements are ignored.
@@ -298,11 +276,12 @@ fn lists_of_entries(rt: HostRuntime) -> Result<(), Fail> {
     let few = Survey::new(rt.alloc(), triangle(rt.alloc())?, &[Entry::range(2, 6)?])?;
     assert!(rt; few.entry(1).is_known() && few.entry(1).high() == 0);
     assert!(rt; !few.entry(0).is_known() && few.entry(0).high() == 6);
-    keeps(&rt, &few, [false, true, true])?;
+    assert!(rt; keeps(&few, [false, true, true])?);
     let many = Survey::new(rt.alloc(), triangle(rt.alloc())?, &[Entry::Known(7); 300])?;
     assert!(rt; many.entry(2).low() == 7 && many.entry(3).low() == 0);
     assert_eq!(rt; many.entry(255).low(), 0);
-    keeps(&rt, &many, [true, true, false])
+    assert!(rt; keeps(&many, [true, true, false])?);
+    Ok(())
 }
 
 // Of two parallel routes, one has its high where the other has its price.
@@ -313,8 +292,9 @@ fn touching_ends(rt: HostRuntime) -> Result<(), Fail> {
     let entries = [Entry::range(3, 5)?, Entry::Known(5)];
     let mut survey = Survey::new(rt.alloc(), matroid, &entries)?;
     run_finishes(&mut survey, &mut quota(5, 2))?;
-    has_paid(&rt, &survey, &[]);
-    keeps(&rt, &survey, [true, false, false])
+    assert!(rt; has_paid(&survey, &[]));
+    assert!(rt; keeps(&survey, [true, false, false])?);
+    Ok(())
 }
 
 // Without elements and without requests.
@@ -327,9 +307,10 @@ fn nothing_at_all(rt: HostRuntime) -> Result<(), Fail> {
     account.answer?;
     account.report?;
     let mut survey = account.survey;
-    refuses(&rt, survey.note(0, 4), 8, 0, 0)?;
-    step_rests(&rt, &mut survey, &mut Table::new())?;
-    keeps(&rt, &survey, [false, false, false])
+    assert!(rt; refuses(survey.note(0, 4), 8, 0, 0));
+    assert!(rt; step_rests(&mut survey, &mut Table::new())?);
+    assert!(rt; keeps(&survey, [false, false, false])?);
+    Ok(())
 }
 
 #[test]
@@ -345,7 +326,7 @@ fn requests_in_turn(rt: HostRuntime) -> Result<(), Fail> {
     let account = conduct(rt.alloc(), matroid, &ranges()?, &mut requests, &mut marks)?;
     account.answer?;
     account.report?;
-    has_paid(&rt, &account.survey, &[(2, 5), (1, 6)]);
+    assert!(rt; has_paid(&account.survey, &[(2, 5), (1, 6)]));
     assert!(rt; marks[0] && !marks[1] && marks[2] && !marks[3]);
     match &requests[3] {
         Request::Report(shown) => {
@@ -367,9 +348,9 @@ fn requests_refused(rt: HostRuntime) -> Result<(), Fail> {
     let mut marks = [false; 255];
     let matroid = triangle(rt.alloc())?;
     let account = conduct(rt.alloc(), matroid, &ranges()?, &mut requests, &mut marks)?;
-    refuses(&rt, account.answer, 12, 0, 1)?;
-    refuses(&rt, account.report, 14, 0, 0)?;
-    has_paid(&rt, &account.survey, &[(2, 5)]);
+    assert!(rt; refuses(account.answer, 12, 0, 1));
+    assert!(rt; refuses(account.report, 14, 0, 0));
+    assert!(rt; has_paid(&account.survey, &[(2, 5)]));
     match &requests[1] {
         Request::Step(source) => {
             assert_eq!(rt; source.number(), 0);
