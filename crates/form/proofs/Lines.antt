@@ -1,15 +1,14 @@
 -- The lines of a sheet and its sections, each with what is written of it. Assumes nothing.
-use Rattle.std.proofs.Common.{◌≡◌, ℕ, zero, suc, ◌+◌, ◌^◌, ◌<◌, ◌≤◌, Bool, true, false, cond, ◌&&◌, eqb, ltb, leb, List, [], ◌∷◌, ◌++◌, map, length, Some, None, decimal, Option, sym, refl, ap, ◌∙◌, subst, arith}
-use Rattle.std.specs.List.{flat_map, AllByRecursion as All}
-use Rattle.std.proofs.lemmas.List.{append_assoc, append-nil}
-use Rattle.std.proofs.lemmas.Bool.{and_parts, and_from, leb-true, le-leb, ltb-true, lt-ltb}
+use Rattle.std.proofs.Common.{◌≡◌, ℕ, ◌^◌, ◌<◌, ◌≤◌, true, ◌&&◌, ltb, leb, List, [], ◌∷◌, ◌++◌, length, None, decimal, Option, refl, ap, ◌∙◌, arith}
+use Rattle.std.specs.List.{flat_map}
+use Rattle.std.proofs.lemmas.List.{append_assoc}
+use Rattle.std.proofs.lemmas.Bool.{and_parts, and_from, leb-true, le-leb}
 use Rattle.entry.specs.Entries.{Entry, Known, Range}
-use Rattle.form.specs.Sheets.{Name, Element, Recorded, Body, spaced, ended, lot_text, entry_text, route_text, lot_number_text, word_text, bit_letter, element_text, recorded_text, section, Number, NameOk, LotOk, WordOk, price_text}
-use Rattle.form.specs.declared.Kind.{Kind}
+use Rattle.form.specs.Sheets.{Element, Recorded, spaced, ended, lot_text, entry_text, route_text, lot_number_text, word_text, element_text, recorded_text, section, Number, NameOk, LotOk, WordOk, price_text}
 use Rattle.form.specs.declared.Letter.{Letter}
 use Rattle.form.specs.declared.Letter.TheVariants.{K, R}
-use Rattle.form.specs.Reading.{Step, field, number, price, name, word, space, newline, heading, count, name_line, lot_line, prices, entry, low_below_high, Tail, route_tail, lot_tail, word_tail, element_line, rises, recorded_line, repeated, counted, body}
-use Rattle.form.proofs.Laws.{Law, Word, law_done, law_needs, law_line, law_then, law_like, law_field, Chain, put_all, law_repeated, put_all_joined}
+use Rattle.form.specs.Reading.{Step, field, heading, count, name_line, lot_line, prices, entry, low_below_high, Tail, route_tail, lot_tail, word_tail, element_line, rises, recorded_line, counted}
+use Rattle.form.proofs.Laws.{Law, Word, law_done, law_needs, law_line, law_then, law_like, law_field, Chain, law_repeated, put_all_joined}
 use Rattle.form.proofs.Words.{word_number, word_price, word_name, word_word, word_kind, kind_text, word_letter, letter_text}
 
 law_spaced : {A : Type 0} {read : List ℕ → Option A} {good : A → Type 0} {show : A → List ℕ} → Word read good show → Law (field 32 read) good (λ a rest. show a ++ (32 ∷ rest))

@@ -1,11 +1,11 @@
 -- The whole sheet: what is accepted is just what is written of a legal sheet. Assumes nothing.
-use Rattle.std.proofs.Common.{◌≡◌, ℕ, zero, suc, ◌+◌, ◌^◌, ◌<◌, ◌≤◌, Bool, true, false, cond, ◌&&◌, eqb, ltb, leb, ◌↔◌, List, [], ◌∷◌, ◌++◌, map, length, Some, None, Ok, Err, codes, decimal, Option, Result, sym, refl, ap, ◌∙◌, subst, arith}
-use Rattle.std.specs.List.{flat_map, AllByRecursion as All}
+use Rattle.std.proofs.Common.{◌≡◌, ℕ, suc, ◌^◌, ◌<◌, ◌≤◌, Bool, true, false, cond, ltb, leb, List, [], ◌∷◌, ◌++◌, length, Some, None, Ok, Err, codes, decimal, Option, Result, sym, refl, ap, ◌∙◌, subst, arith}
+use Rattle.std.specs.List.{AllByRecursion as All}
 use Rattle.std.proofs.lemmas.List.{append_assoc, append-nil}
 use Rattle.std.proofs.lemmas.Bool.{and_parts, and_from, leb-true, le-leb, ltb-true, lt-ltb}
 use Rattle.fault.specs.Refusals.{Refusal, refused}
 use Rattle.entry.specs.Entries.{Entry, Known, Range}
-use Rattle.form.specs.Sheets.{Name, Element, Recorded, Body, Sheet, routes, lots, words, spaced, ended, lot_text, route_text, lot_number_text, word_text, element_text, recorded_text, section, body_text, written, Number, NameOk, LotOk, EntryOk, RouteOk, LotNumberOk, WordOk, Rising, LegalBody, Within, Legal, most_bytes, most_lines, most_lamps}
+use Rattle.form.specs.Sheets.{Name, Recorded, Body, Sheet, routes, lots, words, spaced, ended, lot_text, route_text, lot_number_text, word_text, element_text, recorded_text, section, written, Number, NameOk, LotOk, EntryOk, RouteOk, LotNumberOk, WordOk, Rising, LegalBody, Within, Legal, most_bytes, most_lines, most_lamps}
 use Rattle.form.specs.declared.Kind.{Kind}
 use Rattle.form.specs.declared.Kind.TheVariants.{Routes, Lots, Words}
 use Rattle.form.specs.Reading.{Got, got, stop, Step, name_line, lot_line, low_below_high, Tail, route_tail, lot_tail, word_tail, rises, body, body_of, sheet, whole, checked}

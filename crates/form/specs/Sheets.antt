@@ -1,7 +1,7 @@
 -- A sheet as a value, the bytes that it is written as, and when it is legal. Assumes nothing.
 --     written s      the bytes of the sheet s
 --     Legal s        s is within the limits: counts, numbers, names, ranges, references, word lengths, records, length
-use Rattle.std.specs.Prelude.{◌≡◌, ℕ, suc, ◌^◌, ◌<◌, ◌≤◌, Bool, true, false, cond, ◌&&◌, ◌||◌, List, [], ◌∷◌, ◌++◌, map, length, codes, decimal, nat_le}
+use Rattle.std.specs.Prelude.{◌≡◌, ℕ, suc, ◌^◌, ◌<◌, ◌≤◌, Bool, true, cond, ◌&&◌, ◌||◌, List, [], ◌∷◌, ◌++◌, map, length, codes, decimal, nat_le}
 use Rattle.std.specs.List.{flat_map, AllByRecursion as All}
 use Rattle.entry.specs.Entries.{Entry, Known, Range}
 

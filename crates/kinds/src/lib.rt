@@ -1,4 +1,6 @@
 // Three kinds of matroid: routes between places, lots with caps, and words under xor.
+#![tactic(auto)]
+
 ghost use Rattle.std.specs.Prelude.{◌≡◌, true};
 ghost use Rattle.kinds.specs.Meanings.{Theory};
 

@@ -1,4 +1,6 @@
 // The matroid of elements in lots with caps: a set is independent if no lot has more members in it than its cap.
+#![tactic(auto)]
+
 ghost use Rattle.std.specs.Prelude.{◌≡◌, ◌<◌, length, if◌then◌else◌, Ok, Err, vec_len, nat_lt};
 ghost use Rattle.element.specs.Marks.{all_marks};
 ghost use Rattle.fault.specs.Refusals.{told, refused};

@@ -1,4 +1,6 @@
 // Matroids: which sets of elements are independent, what holds in all of them, and the questions that each of them answers.
+#![tactic(auto)]
+
 ghost use Rattle.std.specs.Prelude.{◌≡◌};
 ghost use Rattle.fault.specs.Refusals.{told};
 ghost use Rattle.matroid.specs.Matroids.{Meaning, Laws};

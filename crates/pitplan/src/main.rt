@@ -1,4 +1,6 @@
 // Reads a sheet from the standard input, and prints its plan.
+#![tactic(auto)]
+
 use plan::plan;
 use std::io;
 use std::io::Read;

@@ -1,5 +1,5 @@
 -- A list of one request that was a run is one of a run afterwards. Assumes nothing.
-use Rattle.std.proofs.Common.{◌≡◌, ℕ, Bool, List, [], ◌∷◌, Some, None, Option, sym, refl, ap, ◌∙◌, arith}
+use Rattle.std.proofs.Common.{◌≡◌, ℕ, Bool, List, [], ◌∷◌, Some, None, Option, refl, ap, arith}
 use Rattle.std.specs.List.{slice_get}
 use Rattle.source.specs.Supplies.{Supply}
 use Rattle.promise.specs.Surveys.{Source}

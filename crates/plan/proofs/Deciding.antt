@@ -1,13 +1,13 @@
 -- What a run and a report come to is the plan of the survey. Assumes nothing.
-use Rattle.std.proofs.Common.{◌≡◌, ℕ, zero, suc, ◌<◌, ◌≤◌, Bool, true, false, cond, ◌&&◌, ltb, List, [], ◌++◌, length, replicate, Some, None, Ok, Err, codes, decimal, Option, Result, sym, refl, ap, ◌∙◌, subst, ⊎_elim, arith}
+use Rattle.std.proofs.Common.{◌≡◌, ℕ, zero, suc, ◌<◌, ◌≤◌, Bool, false, cond, ◌&&◌, List, [], ◌++◌, length, replicate, Some, None, Ok, Err, codes, decimal, Option, Result, sym, refl, ap, ◌∙◌, ⊎_elim, arith}
 use mathlib.Core.Path.{fun_ext}
 use Rattle.form.specs.Sheets.{ended, spaced}
 use lib.ListN.{length-replicate}
-use Rattle.std.proofs.lemmas.Bool.{cases_lt, cond-true, cond-false, lt-ltb, le-ltb}
+use Rattle.std.proofs.lemmas.Bool.{cases_lt, lt-ltb, le-ltb}
 use Rattle.std.proofs.lemmas.List.{get_or_past}
 use Rattle.element.specs.Marks.{all_marks}
 use Rattle.entry.specs.Entries.{Entry, high, low}
-use Rattle.fault.specs.Refusals.{Refusal, refused}
+use Rattle.fault.specs.Refusals.{Refusal}
 use Rattle.matroid.specs.Sets.{Elements, count, cut, sum}
 use Rattle.matroid.specs.Matroids.{Meaning}
 use Rattle.matroid.specs.Questions.{marked, shown}
@@ -15,7 +15,7 @@ use Rattle.matroid.proofs.Counts.{count_same, sum_same}
 use Rattle.matroid.proofs.Marks.{length_shown, shown_here}
 use Rattle.promise.specs.Surveys.{Source, State, Outcome, fresh, run, report}
 use Rattle.promise.specs.Replies.{Reply, showing, run_reply, report_reply}
-use Rattle.plan.specs.Texts.{each_kept, kept_line, ledger_text, total_text, finished_text, stopped_text, decided_text, and_then, quota_origin, by_answer, plan_of}
+use Rattle.plan.specs.Texts.{each_kept, kept_line, ledger_text, total_text, finished_text, decided_text, and_then, quota_origin, by_answer, plan_of}
 
 -- marks of which none is set
 abbrev pub blank : List Bool

@@ -1,5 +1,5 @@
 -- The plan of what the code holds is the plan of the sheet that it is. Assumes nothing.
-use Rattle.std.proofs.Common.{◌≡◌, ℕ, zero, suc, ◌<◌, ◌≤◌, Bool, true, false, cond, ltb, List, [], ◌∷◌, map, length, get_or, Ok, Err, vec_items, Result, sym, refl, ap, ◌∙◌, ⊎_elim, arith}
+use Rattle.std.proofs.Common.{◌≡◌, ℕ, zero, suc, ◌<◌, ◌≤◌, cond, ltb, List, [], ◌∷◌, map, length, get_or, Ok, Err, vec_items, Result, sym, refl, ap, ◌∙◌, ⊎_elim, arith}
 use mathlib.Core.Path.{fun_ext}
 use lib.ListN.{length-map}
 use Rattle.std.proofs.lemmas.List.{get_or_past}
@@ -8,7 +8,6 @@ use Rattle.std.specs.List.{slice_get}
 use Rattle.element.specs.Marks.{all_marks}
 use Rattle.element.specs.declared.Line.{Line}
 use Rattle.fault.specs.Refusals.{Refusal}
-use Rattle.entry.specs.declared.Entry.{Entry as Value}
 use Rattle.entry.specs.declared.Entry.TheVariants.{Known as KnownValue}
 use Rattle.entry.specs.Entries.{Entry, Known}
 use Rattle.entry.specs.Held.{held, sheet}
@@ -17,7 +16,6 @@ use Rattle.promise.specs.Surveys.{Source}
 use Rattle.survey.specs.States.{listed}
 use Rattle.sheet.specs.declared.values.Body.{Body as HeldBody}
 use Rattle.sheet.specs.declared.values.ElementLine.{ElementLine}
-use Rattle.form.specs.Sheets.{Body}
 use Rattle.sheet.specs.Code.{body_of, element_of, record_of}
 use Rattle.plan.specs.Names.{mapped_or, name_of}
 use Rattle.plan.specs.Texts.{plan_of, rationed}

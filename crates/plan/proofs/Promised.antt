@@ -14,7 +14,6 @@ use Rattle.kinds.proofs.Words.{words_laws}
 use Rattle.matroid.specs.Matroids.{Laws}
 use Rattle.promise.proofs.Promised.{promised}
 use Rattle.form.specs.Sheets.{Element, EntryOk, Sheet, Within, routes, lots, words}
-use Rattle.form.specs.Reading.{checked}
 use Rattle.form.proofs.Whole.{accepts_the_written}
 use Rattle.plan.specs.Meanings.{word_number}
 use Rattle.plan.specs.Plans.{answer_plan, entries_of, matroid_of, names_of, plan_bytes, plan_calls, route_from, source_of, tails}

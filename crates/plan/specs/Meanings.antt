@@ -3,7 +3,6 @@
 use Rattle.std.specs.Prelude.{ℕ, zero, suc, ◌+◌, ◌*◌, ◌%◌, ◌^◌, Bool, false, cond, List, length, slice_index_or}
 use Rattle.std.specs.Borrow.{Bor}
 use Rattle.entry.specs.declared.Entry.{Entry as Value}
-use Rattle.kinds.specs.declared.Route.{Route}
 use Rattle.sheet.specs.declared.values.ElementLine.{ElementLine}
 use Rattle.sheet.specs.declared.values.Lot.{Lot}
 use Rattle.sheet.specs.Code.{word_of}

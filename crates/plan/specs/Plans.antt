@@ -12,7 +12,7 @@ use Rattle.kinds.specs.Lists.{routes_of, lots_of, words_of}
 use Rattle.matroid.specs.Matroids.{Meaning}
 use Rattle.promise.specs.Surveys.{Source}
 use Rattle.promise.specs.Calls.{Call, run_with}
-use Rattle.form.specs.Sheets.{Name, Element, Recorded, Body, Sheet, routes, lots, words, spaced, ended, word_text}
+use Rattle.form.specs.Sheets.{Name, Recorded, Body, Sheet, routes, lots, words, spaced, ended, word_text}
 use Rattle.form.specs.Reading.{checked}
 use Rattle.plan.specs.Names.{mapped_or}
 use Rattle.plan.specs.Meanings.{word_number}

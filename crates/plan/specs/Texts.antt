@@ -1,6 +1,6 @@
 -- The plan of a survey as bytes. Assumes nothing.
 --     plan_of m E σ named      the plan of a survey of the matroid m and the entries E, run with the source σ
-use Rattle.std.specs.Prelude.{ℕ, zero, suc, false, cond, not, ◌&&◌, List, [], ◌∷◌, ◌++◌, map, Some, None, Ok, Err, codes, decimal, Option, Result}
+use Rattle.std.specs.Prelude.{ℕ, zero, suc, false, cond, not, ◌&&◌, List, [], ◌++◌, map, Some, None, Ok, Err, codes, decimal, Option, Result}
 use Rattle.element.specs.declared.Line.{Line}
 use Rattle.fault.specs.Refusals.{Refusal, refused}
 use Rattle.entry.specs.Entries.{Entry, low, high}

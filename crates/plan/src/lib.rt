@@ -1,4 +1,6 @@
 // Plans: from the bytes of a sheet to the bytes of its plan.
+#![tactic(auto)]
+
 ghost use Rattle.std.specs.Prelude.{◌≡◌, false, Ok, vec_items};
 ghost use Rattle.fault.specs.Refusals.{refusal, starved, told};
 ghost use Rattle.plan.specs.Plans.{plan_bytes, refused_text};

@@ -104,7 +104,7 @@ fn examples(rt: HostRuntime) -> Result<(), Fail> {
 fn too_long(rt: HostRuntime) -> Result<(), Fail> {
     let heap = rt.alloc();
     let bytes = [b'a'; 65_537];
-    assert!(rt; plan(heap, &bytes)?.as_slice() == b"refused 1 0\n");
-    assert!(rt; plan(heap, &bytes[..65_536])?.as_slice() == b"refused 2 1\n");
+    assert!(rt; plan(heap, &bytes)?.as_slice() == b"refused 1 0\n".as_slice());
+    assert!(rt; plan(heap, &bytes[..65_536])?.as_slice() == b"refused 2 1\n".as_slice());
     Ok(())
 }

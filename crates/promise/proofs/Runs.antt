@@ -1,22 +1,19 @@
 -- A run does not stop at a price, and with a stocked source it ends at a base.
-use Rattle.std.proofs.Common.{◌≡◌, ℕ, zero, suc, ◌<◌, ◌≤◌, true, false, not, ◌⊎◌, List, Some, None, Option, sym, refl, ap, ◌∙◌, subst, inl, inr, arith}
-use Rattle.std.proofs.lemmas.Bool.{both_ways, cond_both, not_from_false, not-true}
-use Rattle.matroid.specs.Sets.{Elements, without, count}
+use Rattle.std.proofs.Common.{◌≡◌, ℕ, suc, ◌<◌, true, false, ◌⊎◌, List, Some, None, Option, sym, refl, ap, ◌∙◌, subst, inl, inr, arith}
+use Rattle.std.proofs.lemmas.Bool.{both_ways, cond_both}
+use Rattle.matroid.specs.Sets.{Elements}
 use Rattle.matroid.specs.Matroids.{Meaning, Laws}
-use Rattle.matroid.proofs.Members.{without_from}
-use Rattle.matroid.proofs.Counts.{count_part, count_without, count_all}
 use Rattle.element.specs.declared.Line.{Line}
-use Rattle.source.specs.Supplies.{Verdict, refused, given, verdict}
+use Rattle.source.specs.Supplies.{Verdict, verdict}
 use Rattle.promise.specs.Walks.{Ended, settled, open_at, walk, topmost}
-use Rattle.promise.specs.Surveys.{Source, State, after_price, Plan, ask, next, priced, due, Answer, finished, paid, outside, declined, Outcome, tried, rested, step, steps, run}
+use Rattle.promise.specs.Surveys.{Source, State, after_price, ask, next, due, Outcome, tried, rested, step, run}
 use Rattle.promise.specs.Runs.{Stocked, Done}
 use Rattle.promise.proofs.Walking.{Open, Walked, walked}
 use Rattle.promise.proofs.Fitting.{open_unknown}
 use Rattle.promise.proofs.Rivals.{pair_found}
-use Rattle.promise.proofs.Pricing.{unknown_was, unknown_other}
 use Rattle.promise.proofs.Ledgers.{due_parts}
 use Rattle.promise.proofs.Supplies.{unlimited_gives, charged_unlimited}
-use Rattle.promise.proofs.Stepping.{readied, planned, acted, went, steps_last, step_source}
+use Rattle.promise.proofs.Stepping.{readied, planned, acted, steps_last, step_source}
 use Rattle.promise.proofs.Calls.{Holds, step_holds}
 use Rattle.promise.proofs.Endings.{Pays, run_unpaid}
 use Rattle.promise.proofs.Reports.{shown, settled_base}

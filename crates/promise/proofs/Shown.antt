@@ -1,10 +1,10 @@
 -- The marks of a report are the base that it shows.
-use Rattle.std.proofs.Common.{◌≡◌, ℕ, ◌<◌, ◌≤◌, Bool, true, false, cond, ◌&&◌, ltb, List, length, Some, None, Ok, Err, Option, Result, sym, refl, ap, ◌∙◌, subst, inl, inr, arith}
+use Rattle.std.proofs.Common.{◌≡◌, ℕ, ◌<◌, ◌≤◌, Bool, false, ◌&&◌, ltb, List, length, Some, None, Option, Result, sym, refl, ap, ◌∙◌, subst, inl, inr, arith}
 use Rattle.std.proofs.lemmas.Bool.{cases_lt, cond-true, cond-false, lt-ltb, le-ltb}
 use Rattle.element.specs.Marks.{all_marks}
-use Rattle.entry.specs.Entries.{Entry, Proper}
-use Rattle.fault.specs.Refusals.{Refusal, refused}
-use Rattle.matroid.specs.Sets.{Elements, Part, cut, sum}
+use Rattle.entry.specs.Entries.{Entry}
+use Rattle.fault.specs.Refusals.{Refusal}
+use Rattle.matroid.specs.Sets.{Elements, cut}
 use Rattle.matroid.specs.Matroids.{Meaning, Laws}
 use Rattle.matroid.specs.Bases.{Base, Cheapest}
 use Rattle.matroid.specs.Questions.{marked, shown}

@@ -1,14 +1,13 @@
 -- No element stands twice in a ledger.
-use Rattle.std.proofs.Common.{◌≡◌, ℕ, suc, ◌+◌, Bool, true, false, cond, eqb, ltb, ◌⊎◌, List, [], ◌∷◌, ◌++◌, Some, None, Option, sym, refl, ap, ◌∙◌, subst, inl, inr, arith}
-use Rattle.std.proofs.lemmas.Bool.{both_ways, and_parts, or_cases, or_left, or_right, or_parts, or_from, eqb-true, eqb-false, eq-eqb, ne_eqb, false≢true, cases_Bool}
+use Rattle.std.proofs.Common.{◌≡◌, ℕ, suc, Bool, true, false, cond, eqb, ◌⊎◌, List, [], ◌∷◌, ◌++◌, None, Option, sym, refl, ap, subst, inl, inr}
+use Rattle.std.proofs.lemmas.Bool.{both_ways, or_cases, or_left, or_right, or_parts, eqb-true, eqb-false, false≢true}
 use Rattle.element.specs.declared.Line.{Line}
 use Rattle.entry.specs.Entries.{Entry, Known, Range, known, inside}
-use Rattle.matroid.specs.Sets.{Elements, nothing, with}
 use Rattle.matroid.specs.Matroids.{Meaning}
 use Rattle.matroid.proofs.Members.{none_false}
 use Rattle.source.specs.Supplies.{verdict}
 use Rattle.promise.specs.Surveys.{Source, State, fresh, priced, line, Plan, rest, ask, next, paid_for, step, notable, note}
-use Rattle.promise.specs.Calls.{Call, step_with, run_with, note_of, report_into, did, after, step_firsts}
+use Rattle.promise.specs.Calls.{Call, step_with, run_with, note_of, report_into, did, after}
 use Rattle.promise.specs.Claims.{elements_of, Apart}
 use Rattle.promise.proofs.Pricing.{known_stays, priced_here}
 use Rattle.promise.proofs.Stepping.{acted, tried_keeps, steps_keep}

@@ -1,5 +1,5 @@
 -- What the calls answer, by numbers, places and depths. Assumes nothing.
-use Rattle.std.specs.Prelude.{ℕ, Bool, cond, ◌&&◌, List, [], ◌∷◌, length, Some, None, Ok, Err, Option, Result, nat_le, nat_lt}
+use Rattle.std.specs.Prelude.{ℕ, Bool, cond, List, [], ◌∷◌, length, Some, None, Ok, Err, Option, Result, nat_le, nat_lt}
 use Rattle.element.specs.Marks.{all_marks}
 use Rattle.element.specs.declared.Line.{Line}
 use Rattle.fault.specs.Refusals.{Refusal, refused}
@@ -8,7 +8,7 @@ use Rattle.matroid.specs.Sets.{Elements, cut}
 use Rattle.matroid.specs.Matroids.{Meaning}
 use Rattle.matroid.specs.Questions.{shown}
 use Rattle.source.specs.Supplies.{deeper, refusal_number}
-use Rattle.promise.specs.Surveys.{Source, State, line, Answer, finished, paid, outside, declined, step, run, note, report}
+use Rattle.promise.specs.Surveys.{State, line, Answer, finished, paid, outside, declined, step, run, report}
 use Rattle.promise.specs.Calls.{Call, step_with, run_with, note_of, report_into, did}
 
 -- a step's answer: none where it is finished, or the line that it paid; or the refusal. A price outside the range is refused from

@@ -1,5 +1,5 @@
 -- Prices that the entries leave possible, and what they settle. Assumes nothing.
-use Rattle.std.specs.Prelude.{◌≡◌, ℕ, ◌*◌, ◌<◌, Bool, true, false, List, [], ◌∷◌}
+use Rattle.std.specs.Prelude.{◌≡◌, ℕ, ◌*◌, ◌<◌, true, List, [], ◌∷◌}
 use Rattle.matroid.specs.Sets.{Elements}
 use Rattle.matroid.specs.Matroids.{Meaning}
 use Rattle.matroid.specs.Bases.{Cheapest}

@@ -1,4 +1,6 @@
 // What a survey promises: weighings, the walk, surveys as values, and the theorems about them. All of it is definitions and proofs.
+#![tactic(auto)]
+
 ghost use Rattle.std.specs.Prelude.{◌≡◌, true};
 ghost use Rattle.promise.specs.Claims.{Promises};
 

@@ -1,4 +1,6 @@
 // Lists of requests: a survey is made, asked each in turn, and reports.
+#![tactic(auto)]
+
 mod carrying;
 mod conducting;
 mod lists;

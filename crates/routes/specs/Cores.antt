@@ -2,7 +2,7 @@
 --     Core n d a b S R     R is what is left of S
 --     Tallied n rs R places, Leaf, Attached     what is noted of each place
 --     Strips, LeafStripped, NoLeafBelow         the steps of the stripping
-use Rattle.std.specs.Prelude.{◌≡◌, ℕ, ◌+◌, ◌<◌, Bool, true, false, cond, List, length, set, ◌==◌, ◌≢◌, slice_index_or, slice_set}
+use Rattle.std.specs.Prelude.{◌≡◌, ℕ, ◌+◌, ◌<◌, Bool, true, false, cond, List, length, ◌==◌, ◌≢◌, slice_index_or, slice_set}
 use Rattle.matroid.specs.Sets.{Elements, Part, sum, count}
 use Rattle.matroid.specs.Questions.{marked}
 use Rattle.kinds.specs.declared.Route.{Route}

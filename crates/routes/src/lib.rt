@@ -1,4 +1,6 @@
 // The matroid of routes between places: a set is dependent if some non-empty part of it touches every place an even number of times.
+#![tactic(auto)]
+
 ghost use Rattle.std.specs.Prelude.{◌≡◌, ◌<◌, length, if◌then◌else◌, Ok, Err, vec_len, nat_lt};
 ghost use Rattle.element.specs.Marks.{all_marks};
 ghost use Rattle.fault.specs.Refusals.{told, refused};

@@ -1,11 +1,11 @@
 -- The ways through a whole sheet. Assumes nothing.
-use Rattle.std.proofs.Common.{◌≡◌, ℕ, ◌≤◌, Bool, true, false, cond, eqb, leb, List, length, Ok, Err, MatchBool, Result, sym, refl, ap, ◌∙◌, subst, inl, inr}
-use Rattle.std.proofs.lemmas.Bool.{cases_Bool, le-leb, false≢true}
+use Rattle.std.proofs.Common.{◌≡◌, ℕ, ◌≤◌, Bool, true, false, cond, eqb, List, length, Ok, Err, MatchBool, Result, sym, refl, ap, ◌∙◌, subst}
+use Rattle.std.proofs.lemmas.Bool.{le-leb, false≢true}
 use Rattle.fault.specs.declared.Fault.{Fault}
-use Rattle.fault.specs.Refusals.{Refusal, refused, refusal, starved, told}
+use Rattle.fault.specs.Refusals.{refused, refusal, starved, told}
 use Rattle.form.specs.declared.Kind.{Kind}
 use Rattle.form.specs.Sheets.{Sheet, most_bytes}
-use Rattle.form.specs.Reading.{Got, got, stop, Step, and_then, heading, body_of, sheet, whole, checked}
+use Rattle.form.specs.Reading.{Got, got, and_then, heading, body_of, sheet, whole, checked}
 use Rattle.form.specs.Theorem.{Headed, Tells}
 use Rattle.form.proofs.Whole.{tells}
 use Rattle.sheet.specs.Code.{HeldSheet, sheet_of}

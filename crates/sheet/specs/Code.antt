@@ -1,5 +1,5 @@
 -- What the code holds, in the words of the sheet's form. Assumes nothing.
-use Rattle.std.specs.Prelude.{◌≡◌, ℕ, ◌+◌, ◌<◌, Bool, true, false, ◌&&◌, ◌||◌, List, [], ◌∷◌, map, length, Some, None, vec_items, Option, ◌==◌, nat_eq}
+use Rattle.std.specs.Prelude.{ℕ, Bool, ◌&&◌, ◌||◌, List, map, length, Some, None, vec_items, Option, ◌==◌, nat_eq}
 use Rattle.std.specs.Borrow.{Bor}
 use Rattle.form.specs.Sheets.{Name, Element, Recorded, Body, Sheet, routes, lots, words, bit_letter, each}
 use Rattle.element.specs.declared.Line.{Line}

@@ -1,4 +1,6 @@
 // Sheets: read from bytes, and written as bytes.
+#![tactic(auto)]
+
 ghost use Rattle.std.specs.Prelude.{◌≡◌, true, false, IfOk, Ok, vec_items};
 ghost use Rattle.fault.specs.Refusals.{starved, told};
 ghost use Rattle.form.specs.Sheets.{Legal, written};

@@ -18,7 +18,7 @@ fn has_routes(body: &Body<&[u8], Route>) -> bool {
     }
     let (entry, route) = (body.elements[2].entry, body.elements[2].tail);
     body.allowance == 9
-        && body.places[2] == b"c"
+        && body.places[2] == b"c".as_slice()
         && (entry.low(), entry.high(), entry.is_known()) == (4, 9, false)
         && (route.from, route.to) == (0, 2)
         && (body.recorded[2].element, body.recorded[2].price) == (2, 5)
@@ -30,7 +30,7 @@ fn has_lots(body: &Body<Lot, Place>) -> bool {
     }
     let entry = body.elements[0].entry;
     body.allowance == 2
-        && body.places[1].name == b"path"
+        && body.places[1].name == b"path".as_slice()
         && (body.places[1].cap, body.elements[0].tail) == (7, 1)
         && (entry.low(), entry.high(), entry.is_known()) == (5, 5, true)
 }
@@ -41,8 +41,8 @@ fn has_words(body: &Body<&[u8], &[u8]>) -> bool {
     }
     let entry = body.elements[0].entry;
     body.allowance == 3
-        && body.places[1] == b"blue"
-        && body.elements[0].tail == b"01"
+        && body.places[1] == b"blue".as_slice()
+        && body.elements[0].tail == b"01".as_slice()
         && (entry.low(), entry.high(), entry.is_known()) == (3, 5, false)
 }
 

@@ -1,5 +1,5 @@
 -- Over any list of price calls: prices and depth stay, what is free stays free, and the allowance pays for all that was not free.
-use Rattle.std.proofs.Common.{◌≡◌, ℕ, ◌+◌, ◌-◌, Bool, true, false, cond, not, ◌&&◌, eqb, List, [], ◌∷◌, Some, None, Option, refl, ap, ◌∙◌, subst, inl, inr, arith}
+use Rattle.std.proofs.Common.{◌≡◌, ℕ, ◌+◌, Bool, true, false, cond, not, ◌&&◌, eqb, List, [], ◌∷◌, Some, None, Option, refl, ap, ◌∙◌, subst, inl, inr, arith}
 use Rattle.std.proofs.lemmas.Bool.{cases_Bool, or_left, eqb-false}
 use Rattle.source.specs.Supplies.{Supply, Verdict, refused, given, spent, of_price, verdict, exhausted, lowered, left_by, after}
 use Rattle.source.specs.Calls.{Call, gives, payments, lessened, Covers, Lasting}

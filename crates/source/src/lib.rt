@@ -1,4 +1,6 @@
 // Sources of prices: what every source promises, and two that hold prices written down.
+#![tactic(auto)]
+
 ghost use Rattle.std.specs.Prelude.{◌≡◌, ℕ, Bool, OnErr};
 ghost use Rattle.fault.specs.Refusals.{told};
 ghost use Rattle.source.specs.Supplies.{Supply, Sound, answered, after};

@@ -1,12 +1,12 @@
 -- Entries put into a table. Assumes nothing.
-use Rattle.std.proofs.Common.{◌≡◌, ℕ, ◌+◌, ◌<◌, ◌≤◌, min, true, false, cond, eqb, ltb, List, length, get_or, set, replicate, sym, refl, ap, ◌∙◌, subst, inl, inr, ⊎_elim, arith}
+use Rattle.std.proofs.Common.{◌≡◌, ℕ, ◌+◌, ◌<◌, ◌≤◌, min, true, ltb, List, length, get_or, set, replicate, sym, ap, ◌∙◌, ⊎_elim, arith}
 use mathlib.Core.Path.{fun_ext}
 use lib.ListN.{length-replicate}
 use Rattle.std.proofs.lemmas.Bool.{cases_eq, cases_lt, cond-true, cond-false, lt-ltb, le-ltb}
 use Rattle.std.proofs.lemmas.List.{get_or_past, get_or-set_same, get_or-set_other, get_or-replicate}
 use Rattle.entry.specs.declared.Entry.{Entry as Value}
 use Rattle.entry.specs.declared.Entry.TheVariants.{Known as KnownValue}
-use Rattle.entry.specs.Entries.{Entry, Known}
+use Rattle.entry.specs.Entries.{Known}
 use Rattle.entry.specs.Held.{held, sheet}
 use Rattle.survey.specs.States.{listed}
 

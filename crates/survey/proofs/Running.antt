@@ -1,8 +1,7 @@
 -- A run, one step after another. Assumes nothing.
-use Rattle.std.proofs.Common.{◌≡◌, ℕ, zero, suc, ◌<◌, ◌≤◌, List, get_or, Some, None, Ok, Err, Option, Result, sym, refl, ap, ◌∙◌, subst, arith}
+use Rattle.std.proofs.Common.{◌≡◌, ℕ, zero, suc, ◌<◌, ◌≤◌, List, get_or, Some, None, Ok, Err, sym, refl, ap, ◌∙◌, subst, arith}
 use Rattle.element.specs.declared.Line.{Line}
-use Rattle.fault.specs.declared.Fault.{Fault}
-use Rattle.fault.specs.Refusals.{Refusal, refusal, told}
+use Rattle.fault.specs.Refusals.{Refusal}
 use Rattle.entry.specs.declared.Entry.{Entry as Value}
 use Rattle.entry.specs.declared.Entry.TheVariants.{Known as KnownValue, Range as RangeValue}
 use Rattle.entry.specs.Entries.{Proper}

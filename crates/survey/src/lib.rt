@@ -1,4 +1,6 @@
 // Surveys: which prices to ask for, until a cheapest base is certain.
+#![tactic(auto)]
+
 mod pricing;
 mod reports;
 mod steps;

@@ -1,4 +1,6 @@
 // The walk over the elements by their low ends, and the pair of an open circuit that is priced next.
+#![tactic(auto)]
+
 mod cases;
 mod choices;
 mod ends;

@@ -1,4 +1,6 @@
 // The matroid of words under xor: a set is dependent if some non-empty part of it has an even number of ones at every bit.
+#![tactic(auto)]
+
 ghost use Rattle.std.specs.Prelude.{◌≡◌, ◌<◌, length, if◌then◌else◌, Ok, Err, vec_len, nat_lt};
 ghost use Rattle.element.specs.Marks.{all_marks};
 ghost use Rattle.fault.specs.Refusals.{told, refused};

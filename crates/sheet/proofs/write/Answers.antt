@@ -1,4 +1,4 @@
-use Rattle.std.proofs.Common.{◌≡◌, Ok, vec_items, ap}
+use Rattle.std.proofs.Common.{Ok, vec_items}
 use Rattle.std.proofs.lemmas.Result.{err_from_is_err_and}
 use Rattle.form.specs.Sheets.{written}
 use Rattle.writer.proofs.Writing.{starved_err, written_out}

@@ -1,4 +1,4 @@
-use Rattle.std.proofs.Common.{[], length, sym, arith}
+use Rattle.std.proofs.Common.{[], sym, arith}
 use lib.ListN.{length-map}
 use Rattle.std.proofs.lemmas.List.{get_or-map, get_or_past}
 use Rattle.sheet.specs.Code.{bytes}

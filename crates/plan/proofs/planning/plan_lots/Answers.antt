@@ -1,4 +1,4 @@
-use Rattle.std.proofs.Common.{◌≡◌, List, [], map, length, get_or, Ok, vec_items, sym, refl, ap, ◌∙◌, arith}
+use Rattle.std.proofs.Common.{◌≡◌, [], map, length, get_or, Ok, vec_items, sym, refl, ap, ◌∙◌, arith}
 use lib.ListN.{length-map}
 use Rattle.fault.specs.Refusals.{refused}
 use Rattle.matroid.specs.Matroids.{Meaning}

@@ -1,7 +1,7 @@
-use Rattle.std.proofs.Common.{◌≡◌, length, Ok, vec_items, sym, ap, ◌∙◌, subst, arith}
+use Rattle.std.proofs.Common.{Ok, vec_items, sym, ap, ◌∙◌, subst, arith}
 use lib.ListN.{length-map}
 use Rattle.form.specs.Sheets.{Within}
-use Rattle.sheet.specs.Code.{HeldSheet, bytes, element_of, itself, route_of, sheet_of, word_of}
+use Rattle.sheet.specs.Code.{HeldSheet, element_of, itself, route_of, sheet_of, word_of}
 use Rattle.plan.specs.Plans.{sheet_plan}
 use Rattle.plan.proofs.planning.plan_sheet.Goals as goal
 

@@ -1,4 +1,4 @@
-use Rattle.std.proofs.Common.{◌≡◌, ◌+◌, sym, ap, ◌∙◌, arith}
+use Rattle.std.proofs.Common.{◌≡◌, ap, ◌∙◌, arith}
 use Rattle.matroid.specs.Questions.{marked}
 use Rattle.plan.proofs.Keeping.{count_in, count_out}
 use Rattle.plan.proofs.texts.count_kept.Goals as goal

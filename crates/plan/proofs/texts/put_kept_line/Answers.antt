@@ -1,4 +1,4 @@
-use Rattle.std.proofs.Common.{[], ◌∷◌, ◌++◌, get_or, decimal, sym, ap, ◌∙◌}
+use Rattle.std.proofs.Common.{[], ◌++◌, decimal, sym, ap, ◌∙◌}
 use Rattle.std.proofs.lemmas.Option.{slice_get-get_or, slice_get_past}
 use Rattle.std.proofs.lemmas.List.{append-nil}
 use Rattle.entry.specs.Entries.{high, low}

@@ -1,4 +1,4 @@
-use Rattle.std.proofs.Common.{◌≡◌, ◌+◌, sym, ap, ◌∙◌, subst, arith}
+use Rattle.std.proofs.Common.{◌≡◌, ◌+◌, sym, ap, subst, arith}
 use Rattle.matroid.specs.Questions.{marked}
 use Rattle.survey.specs.States.{state}
 use Rattle.writer.specs.declared.Writer.{Writer}

@@ -1,4 +1,4 @@
-use Rattle.std.proofs.Common.{◌≡◌, ◌+◌, sym, ap, ◌∙◌, arith}
+use Rattle.std.proofs.Common.{ap, ◌∙◌, arith}
 use Rattle.entry.specs.Entries.{high, low}
 use Rattle.matroid.specs.Questions.{marked}
 use Rattle.survey.specs.States.{state}

@@ -1,5 +1,5 @@
-use Rattle.std.proofs.Common.{◌≡◌, List, Result, sym, refl, ap, ◌∙◌, subst}
-use Rattle.fault.specs.Refusals.{Refusal, told}
+use Rattle.std.proofs.Common.{◌≡◌, sym, refl, ap, ◌∙◌, subst}
+use Rattle.fault.specs.Refusals.{told}
 use Rattle.matroid.specs.Matroids.{Meaning}
 use Rattle.promise.specs.Surveys.{State, fresh}
 use Rattle.promise.specs.Calls.{after}

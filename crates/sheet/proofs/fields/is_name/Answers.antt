@@ -1,4 +1,4 @@
-use Rattle.std.proofs.Common.{◌≡◌, ◌≤◌, leb, length, sym, arith, false-eqb}
+use Rattle.std.proofs.Common.{leb, length, sym, arith, false-eqb}
 use Rattle.std.proofs.lemmas.Bool.{and_from, and_right, le-leb}
 use Rattle.form.specs.Sheets.{name_byte, most_letters}
 use Rattle.sheet.proofs.Scans.{each_more, each_not, each_all}

@@ -1,4 +1,4 @@
-use Rattle.std.proofs.Common.{◌≡◌, eqb, length, sym, arith}
+use Rattle.std.proofs.Common.{eqb, length, sym, arith}
 use Rattle.std.proofs.lemmas.Bool.{and_from, and_right, eq-eqb}
 use Rattle.sheet.specs.Code.{is_bit}
 use Rattle.sheet.proofs.Scans.{each_more, each_not, each_all}

@@ -1,4 +1,4 @@
-use Rattle.std.proofs.Common.{◌≡◌, ◌<◌, length, refl, arith, false-eqb}
+use Rattle.std.proofs.Common.{arith, false-eqb}
 use Rattle.sheet.proofs.Scans.{read_more, not_lead, not_low, not_high, not_small, end_big, end_some}
 use Rattle.sheet.proofs.fields.number_in.Goals as goal
 use Rattle.sheet.proofs.fields.number_in.Goals.{then-i-gt0+else-value-eq0, else-i-gt0}

@@ -1,4 +1,4 @@
-use Rattle.std.proofs.Common.{◌≡◌, map, length, vec_items, refl, ap, ◌∙◌, arith}
+use Rattle.std.proofs.Common.{map, length, vec_items, ap, ◌∙◌, arith}
 use Rattle.std.proofs.lemmas.List.{map_push}
 use Rattle.sheet.proofs.Ways.{sofar_start, sofar_turn, sofar_halt, sofar_end, last_is, stops_map}
 use Rattle.sheet.proofs.sections.rows.Goals as goal

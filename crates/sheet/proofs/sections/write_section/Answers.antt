@@ -1,4 +1,4 @@
-use Rattle.std.proofs.Common.{[], map, ap, ◌∙◌, arith}
+use Rattle.std.proofs.Common.{map, ap}
 use Rattle.std.specs.List.{flat_map}
 use Rattle.std.proofs.lemmas.List.{take_all}
 use Rattle.writer.proofs.Writing.{wrote_as, wrote_both, wrote_none}

@@ -1,6 +1,5 @@
-use Rattle.std.proofs.Common.{◌++◌, map, length, take, decimal}
+use Rattle.std.proofs.Common.{map, take}
 use Rattle.std.specs.List.{flat_map}
-use Rattle.form.specs.Sheets.{ended}
 use Rattle.writer.specs.Written.{Wrote}
 use Rattle.sheet.proofs.sections.write_section.Given as goal
 

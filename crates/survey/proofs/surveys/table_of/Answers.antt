@@ -1,4 +1,4 @@
-use Rattle.std.proofs.Common.{sym, refl, ◌∙◌, arith, length-set}
+use Rattle.std.proofs.Common.{refl, ◌∙◌, arith, length-set}
 use Rattle.entry.specs.declared.Entry.TheVariants.{Known}
 use Rattle.element.specs.Marks.{all_marks}
 use Rattle.std.proofs.lemmas.List.{get_or_default}

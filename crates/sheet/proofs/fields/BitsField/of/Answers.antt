@@ -1,4 +1,4 @@
-use Rattle.std.proofs.Common.{◌≡◌, true, false, cond, Some, None, sym, ap, ◌∙◌}
+use Rattle.std.proofs.Common.{cond, Some, None, sym, ap, ◌∙◌}
 use Rattle.sheet.specs.Code.{ones}
 use Rattle.sheet.proofs.Scans.{word_is}
 use Rattle.sheet.proofs.fields.BitsField.of.Goals as goal

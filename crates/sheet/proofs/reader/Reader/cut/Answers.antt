@@ -1,4 +1,4 @@
-use Rattle.std.proofs.Common.{drop, Some, refl, ap, ◌∙◌, add-one, arith, length-drop}
+use Rattle.std.proofs.Common.{add-one, arith, length-drop}
 use Rattle.std.proofs.lemmas.List.{take_rest}
 use Rattle.sheet.proofs.Scans.{cut_found, cut_none}
 use Rattle.sheet.proofs.reader.Reader.cut.Goals as goal

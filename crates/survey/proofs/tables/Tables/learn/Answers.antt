@@ -1,4 +1,4 @@
-use Rattle.std.proofs.Common.{◌≡◌, vec_len, ◌∙◌, arith, length-set}
+use Rattle.std.proofs.Common.{vec_len, ◌∙◌, arith, length-set}
 use Rattle.survey.proofs.Paying.{room_kept}
 use Rattle.survey.proofs.tables.Tables.learn.Goals as goal
 
