@@ -1,3 +1,5 @@
+#![tactic(auto)]
+
 // Trials of the kinds: their answers for every set of small examples, compared with a trial of every part, and each refusal.
 #[cfg(test)]
 mod tests {

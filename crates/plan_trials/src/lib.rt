@@ -1,3 +1,5 @@
+#![tactic(auto)]
+
 // Trials of plans, from bytes to bytes.
 #[cfg(test)]
 mod tests;

@@ -94,7 +94,10 @@ const EXAMPLES: [Example; 16] = [
 fn examples(rt: HostRuntime) -> Result<(), Fail> {
     for example in &EXAMPLES {
         let (sheet, text) = (example.sheet, example.plan);
-        assert!(rt; plan(rt.alloc(), sheet.as_bytes())?.as_slice() == text.as_bytes(), "{sheet}");
+        assert!(rt;
+            plan(rt.alloc(), sheet.as_bytes())?.as_slice() == text.as_bytes(),
+            "{sheet}"
+        );
     }
     Ok(())
 }

@@ -1,3 +1,5 @@
+#![tactic(auto)]
+
 // Trials of the sheet's reader and writer, and of what they answer with.
 #[cfg(test)]
 mod refusals;

@@ -1,3 +1,5 @@
+#![tactic(auto)]
+
 // Piles of layers at work.
 #[cfg(test)]
 mod tests;

@@ -1,2 +1,5 @@
+mod Advances
+mod Delays
 mod Scans
+mod Stages
 mod Turns

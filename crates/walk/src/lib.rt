@@ -4,11 +4,13 @@
 mod cases;
 mod choices;
 mod ends;
+mod progress;
 mod walks;
 
 pub use cases::worked_cases_hold;
 pub use choices::choose_pair;
 use element::MARKS;
+pub use progress::Progress;
 pub use walks::walk_through;
 
 // How a walk ends.

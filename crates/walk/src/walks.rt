@@ -11,7 +11,7 @@ use entry::Entry;
 use matroid::{Closing, Matroid};
 
 // Whether the walk takes i before j.
-fn goes_before(entries: &[Entry; MARKS], i: Element, j: Element) -> bool
+pub(crate) fn goes_before(entries: &[Entry; MARKS], i: Element, j: Element) -> bool
     ensures { result ≡ earlier (sheet entries.now) i j }
 {
     let (low, high) = (low_of(entries, i), high_of(entries, i));
@@ -33,7 +33,7 @@ fn improves(
 }
 
 // The earliest untaken element below n, or n.
-fn next_element(entries: &[Entry; MARKS], n: Element, taken: &[bool; MARKS]) -> Element
+pub(crate) fn next_element(entries: &[Entry; MARKS], n: Element, taken: &[bool; MARKS]) -> Element
     ensures { result ≡ earliest n (sheet entries.now) (marked taken.now) }
 {
     let mut best = n;
@@ -46,7 +46,12 @@ fn next_element(entries: &[Entry; MARKS], n: Element, taken: &[bool; MARKS]) -> 
 }
 
 // Whether every other mark below n has its high at or below the low of e.
-fn is_topped(entries: &[Entry; MARKS], n: Element, marks: &[bool; MARKS], e: Element) -> bool
+pub(crate) fn is_topped(
+    entries: &[Entry; MARKS],
+    n: Element,
+    marks: &[bool; MARKS],
+    e: Element,
+) -> bool
     ensures { result ≡ topped n (sheet entries.now) (marked marks.now) e }
 {
     let low = low_of(entries, e);

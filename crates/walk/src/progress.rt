@@ -1,0 +1,137 @@
+// A walk that goes on from a stage, and goes back when a price comes up.
+ghost use Rattle.std.specs.Prelude.{◌≡◌, ℕ, true};
+ghost use Rattle.entry.specs.Entries.{Entry as AnEntry, high as top, inside};
+ghost use Rattle.entry.specs.Held.{sheet};
+ghost use Rattle.matroid.specs.Matroids.{Meaning, Laws};
+ghost use Rattle.matroid.specs.Sets.{nothing};
+ghost use Rattle.matroid.specs.Questions.{marked};
+ghost use Rattle.promise.specs.Surveys.{priced};
+ghost use Rattle.promise.specs.Walks.{walk};
+ghost use Rattle.walk.specs.Stages.{Reached, behind, lower, overtaken, standing};
+ghost use Rattle.walk.specs.Walked.{Along, Askable, Closed, ended, kept_of, taken_of};
+
+use crate::Walk;
+use crate::ends::low_of;
+use crate::walks::{goes_before, is_topped, next_element};
+use element::{Element, MARKS, Price};
+use entry::Entry;
+use matroid::{Closing, Matroid};
+
+// How far a walk has come: the elements that are taken, and those of them that are kept.
+#[derive(Drop)]
+pub struct Progress {
+    pub(crate) taken: [bool; MARKS],
+    pub(crate) kept: [bool; MARKS],
+}
+
+// The circuit that e closes over the kept ones, if it closes one; none either where that may not be asked.
+fn closed_if_asked<M: Matroid>(
+    matroid: &M,
+    kept: &[bool; MARKS],
+    e: Element,
+) -> Option<[bool; MARKS]>
+    ensures { Askable (M.Matroid.meaning matroid.now) (marked kept.now) e → Closed (M.Matroid.meaning matroid.now) (marked kept.now) e result }
+{
+    let mut marks = [false; MARKS];
+    match matroid.circuit(kept, e, &mut marks) {
+        Ok(closing) => match closing {
+            Closing::Independent => None,
+            Closing::Circuit => Some(marks),
+        },
+        Err(_) => None,
+    }
+}
+
+// The walk from a stage on: an element that closes no circuit is kept, and one that tops its circuit is dropped.
+// At an open circuit the element that closes it is not taken.
+fn go_on<M: Matroid>(
+    matroid: &M,
+    entries: &[Entry; MARKS],
+    taken: &mut [bool; MARKS],
+    chosen: &mut [bool; MARKS],
+) -> Walk
+    ensures walk { Reached (M.Matroid.meaning matroid.now) (sheet entries.now) (marked taken.old) (marked chosen.old) → ended result ≡ walk (M.Matroid.meaning matroid.now) (sheet entries.now) }
+    ensures stage { Reached (M.Matroid.meaning matroid.now) (sheet entries.now) (marked taken.old) (marked chosen.old) → Reached (M.Matroid.meaning matroid.now) (sheet entries.now) (marked taken.new) (marked chosen.new) }
+{
+    let n = matroid.size();
+    loop {
+        let e = next_element(entries, n, taken);
+        if e == n {
+            return Walk::Settled(*chosen);
+        }
+        match closed_if_asked(matroid, chosen, e) {
+            None => chosen[e as usize] = true,
+            Some(circuit) => {
+                if !is_topped(entries, n, &circuit, e) {
+                    return Walk::Open(circuit);
+                }
+            }
+        }
+        taken[e as usize] = true;
+    }
+}
+
+// Takes the marks off all elements but those whose low is below the given one.
+fn keep_lower(marks: &mut [bool; MARKS], entries: &[Entry; MARKS], high: Price)
+    ensures { marked marks.new ≡ lower (sheet entries.now) high (marked marks.old) }
+{
+    for i in 0..MARKS {
+        marks[i] = marks[i] && low_of(entries, i as Element) < high;
+    }
+}
+
+// Whether i is another mark than x, and x goes before it.
+fn is_overtaken(entries: &[Entry; MARKS], marks: &[bool; MARKS], x: Element, i: Element) -> bool
+    ensures { result ≡ overtaken (sheet entries.now) x (marked marks.now) i }
+{
+    marks[i as usize] && i != x && goes_before(entries, x, i)
+}
+
+// Whether x goes before none of the other marks below n.
+fn is_behind(entries: &[Entry; MARKS], n: Element, marks: &[bool; MARKS], x: Element) -> bool
+    ensures { result ≡ behind n (sheet entries.now) x (marked marks.now) }
+{
+    for i in 0..n {
+        if is_overtaken(entries, marks, x, i) {
+            return false;
+        }
+    }
+    true
+}
+
+impl Progress {
+    // Nothing is taken yet.
+    pub fn new() -> Progress
+        ensures taken { taken_of result ≡ nothing }
+        ensures kept { kept_of result ≡ nothing }
+        ensures along { (m : Meaning) (E : ℕ → AnEntry) → Along m E result }
+    {
+        Progress {
+            taken: [false; MARKS],
+            kept: [false; MARKS],
+        }
+    }
+
+    // Goes on with the walk that came to this progress, to its end.
+    pub fn finish<M: Matroid>(&mut self, matroid: &M, entries: &[Entry; MARKS]) -> Walk
+        ensures walk { Along (M.Matroid.meaning matroid.now) (sheet entries.now) self.old → ended result ≡ walk (M.Matroid.meaning matroid.now) (sheet entries.now) }
+        ensures along { Along (M.Matroid.meaning matroid.now) (sheet entries.now) self.old → Along (M.Matroid.meaning matroid.now) (sheet entries.now) self.new }
+    {
+        go_on(matroid, entries, &mut self.taken, &mut self.kept)
+    }
+
+    // Goes back to where the walk over the entries has come to, in which x is known, and was a range with the high end before.
+    // What is taken stays, but for elements whose circuits may have x: those have their low at or above its high end.
+    pub fn go_back(&mut self, entries: &[Entry; MARKS], n: Element, x: Element, high: Price)
+        ensures taken { taken_of self.new ≡ standing n (sheet entries.now) x high (taken_of self.old) (taken_of self.old) }
+        ensures kept { kept_of self.new ≡ standing n (sheet entries.now) x high (taken_of self.old) (kept_of self.old) }
+        ensures along { (m : Meaning) (E : ℕ → AnEntry) (p : ℕ) → Laws m → n ≡ m.size → inside (E x) p ≡ true → high ≡ top (E x) → sheet entries.now ≡ priced E x p → Along m E self.old → Along m (sheet entries.now) self.new }
+    {
+        keep_lower(&mut self.taken, entries, high);
+        keep_lower(&mut self.kept, entries, high);
+        if is_behind(entries, n, &self.taken, x) {
+            self.taken[x as usize] = false;
+            self.kept[x as usize] = false;
+        }
+    }
+}
