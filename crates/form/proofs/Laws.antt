@@ -1,6 +1,6 @@
 -- A step and the text that it reads, as laws that go from the parts to the whole. Assumes nothing.
 use Rattle.std.proofs.Common.{◌≡◌, ℕ, zero, suc, ◌+◌, ◌<◌, ◌≤◌, Bool, true, false, cond, eqb, List, [], ◌∷◌, ◌++◌, length, Some, None, Option, sym, refl, ap, ◌∙◌, subst, arith}
-use Rattle.std.specs.List.{flat_map, AllByRecursion as All}
+use Rattle.std.specs.List.{flat_map, AllByRecursion}
 use Rattle.std.proofs.lemmas.List.{append_assoc}
 use Rattle.std.proofs.lemmas.Bool.{eqb-true, ne_eqb, eq-eqb, false≢true}
 use Rattle.form.specs.Reading.{Got, got, stop, Step, and_then, done, need, one_on, line, led, cut, formed, taken, field, repeated}
@@ -14,7 +14,7 @@ pub record Law {A : Type 0} (s : Step A) (good : A → Type 0) (put : A → List
 pub record Word {A : Type 0} (read : List ℕ → Option A) (good : A → Type 0) (show : A → List ℕ) : Type 0 where
   pub sound : (w : List ℕ) (a : A) → read w ≡ Some a → good a × (show a ≡ w)
   pub complete : (a : A) → good a → read (show a) ≡ Some a
-  pub high : (a : A) → good a → All (λ b. 48 ≤ b) (show a)
+  pub high : (a : A) → good a → AllByRecursion (λ b. 48 ≤ b) (show a)
 
 -- ## What a step that got something did
 
@@ -101,7 +101,7 @@ cut_sound : (c : ℕ) (bs w rest : List ℕ) → cut c bs ≡ Some (w, rest) →
 cut_sound c [] w rest e = let z : ◌≡◌ {A = ℕ} 0 1 = cc in absurd (omega arith)
 cut_sound c (b ∷ bs) w rest e = cut_at b c bs (eqb b c) refl (cut c bs) refl (cut_sound c bs) w rest e
 
-cut_complete : (c : ℕ) → c < 48 → (w rest : List ℕ) → All (λ b. 48 ≤ b) w → cut c (w ++ (c ∷ rest)) ≡ Some (w, rest)
+cut_complete : (c : ℕ) → c < 48 → (w rest : List ℕ) → AllByRecursion (λ b. 48 ≤ b) w → cut c (w ++ (c ∷ rest)) ≡ Some (w, rest)
 cut_complete c low [] rest h = ap (λ t. cond t (Some ([], rest)) (led c (cut c rest))) (eq-eqb c c refl)
 cut_complete c low (b ∷ w) rest h =
     ap (λ t. cond t (Some ([], w ++ (c ∷ rest))) (led b (cut c (w ++ (c ∷ rest))))) (ne_eqb b c (λ e. omega (arith, h.0))) ∙

@@ -1,6 +1,6 @@
 -- The whole sheet: what is accepted is just what is written of a legal sheet. Assumes nothing.
 use Rattle.std.proofs.Common.{◌≡◌, ℕ, suc, ◌^◌, ◌<◌, ◌≤◌, Bool, true, false, cond, ltb, leb, List, [], ◌∷◌, ◌++◌, length, Some, None, Ok, Err, codes, decimal, Option, Result, sym, refl, ap, ◌∙◌, subst, arith}
-use Rattle.std.specs.List.{AllByRecursion as All}
+use Rattle.std.specs.List.{AllByRecursion}
 use Rattle.std.proofs.lemmas.List.{append_assoc, append-nil}
 use Rattle.std.proofs.lemmas.Bool.{and_parts, and_from, leb-true, le-leb, ltb-true, lt-ltb}
 use Rattle.fault.specs.Refusals.{Refusal, refused}
@@ -16,11 +16,11 @@ use Rattle.form.proofs.Lines.{law_heading, law_name, law_lot, EntryForm, RouteFo
 
 -- ## A chain of lines that do not look back, and one of records
 
-chain_all : {A : Type 0} (good P : A → Type 0) → ((a : A) → good a → P a) → (o : Option A) (xs : List A) → Chain (λ _. good) o xs → All P xs
+chain_all : {A : Type 0} (good P : A → Type 0) → ((a : A) → good a → P a) → (o : Option A) (xs : List A) → Chain (λ _. good) o xs → AllByRecursion P xs
 chain_all good P to o [] g = tt
 chain_all good P to o (x ∷ xs) g = (to x g.0, chain_all good P to (Some x) xs g.1)
 
-all_chain : {A : Type 0} (good P : A → Type 0) → ((a : A) → P a → good a) → (o : Option A) (xs : List A) → All P xs → Chain (λ _. good) o xs
+all_chain : {A : Type 0} (good P : A → Type 0) → ((a : A) → P a → good a) → (o : Option A) (xs : List A) → AllByRecursion P xs → Chain (λ _. good) o xs
 all_chain good P from o [] g = tt
 all_chain good P from o (x ∷ xs) g = (from x g.0, all_chain good P from (Some x) xs g.1)
 
@@ -37,13 +37,13 @@ rises_from : (o : Option Recorded) (k : ℕ) → least o ≤ k → rises o k ≡
 rises_from None k h = refl
 rises_from (Some r) k h = lt-ltb r.0 k h
 
-records_to : (n : ℕ) (o : Option Recorded) (rs : List Recorded) → Chain (RecordedForm n) o rs → All (λ r. (r.0 < n) × Number r.1) rs × Rising (least o) rs
+records_to : (n : ℕ) (o : Option Recorded) (rs : List Recorded) → Chain (RecordedForm n) o rs → AllByRecursion (λ r. (r.0 < n) × Number r.1) rs × Rising (least o) rs
 records_to n o [] g = (tt, tt)
 records_to n o (r ∷ rs) g =
     let h = records_to n (Some r) rs g.1 in
     (((ltb-true r.0 n g.0.1.1.0, g.0.1.0), h.0), (rises_to o r.0 g.0.1.1.1, h.1))
 
-records_from : (n : ℕ) → n ≤ most_lines → (o : Option Recorded) (rs : List Recorded) → All (λ r. (r.0 < n) × Number r.1) rs → Rising (least o) rs → Chain (RecordedForm n) o rs
+records_from : (n : ℕ) → n ≤ most_lines → (o : Option Recorded) (rs : List Recorded) → AllByRecursion (λ r. (r.0 < n) × Number r.1) rs → Rising (least o) rs → Chain (RecordedForm n) o rs
 records_from n small o [] a u = tt
 records_from n small o (r ∷ rs) a u =
     let k : r.0 < n = a.0.0 in

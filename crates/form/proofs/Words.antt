@@ -1,7 +1,7 @@
 -- What a field holds, and what is written of it: numbers, names, words, the kind and the letter. Assumes nothing.
 use Rattle.std.proofs.Common.{◌≡◌, ℕ, zero, suc, ◌^◌, ◌<◌, ◌≤◌, Bool, true, false, cond, not, ◌&&◌, eqb, ltb, leb, ◌⊎◌, List, [], ◌∷◌, map, length, get_or, Some, None, codes, decimal, Option, sym, refl, ap, ◌∙◌, subst, inl, inr, arith, rules}
 use Rattle.std.specs.Char.{is_ascii_digit}
-use Rattle.std.specs.List.{AllByRecursion as All}
+use Rattle.std.specs.List.{AllByRecursion}
 use Rattle.std.specs.Str.{all_ascii_digits, bytes_eq}
 use Rattle.std.proofs.lemmas.Fmt.{decimal-digits_value, decimal_digit, digits_decimal, digits_value-decimal, decimal_nonempty, first_decimal}
 use Rattle.std.proofs.lemmas.Slice.Eq.{bytes_eq-Decides}
@@ -40,7 +40,7 @@ plain_not [] z l = absurd (omega arith)
 plain_not (c ∷ []) z l = absurd (omega arith)
 plain_not (c ∷ (d ∷ ds)) z l = ap not (eq-eqb c 48 z)
 
-high_digits : (w : List ℕ) → all_ascii_digits w ≡ true → All (λ b. 48 ≤ b) w
+high_digits : (w : List ℕ) → all_ascii_digits w ≡ true → AllByRecursion (λ b. 48 ≤ b) w
 high_digits [] e = tt
 high_digits (c ∷ cs) e =
     let h = and_parts (is_ascii_digit c) (all_ascii_digits cs) e in
@@ -86,7 +86,7 @@ high_byte b e =
       | inr h ↦ leb-true 48 b (and_parts (leb 48 b) (leb b 57) h).0
     ]
 
-high_name : (w : List ℕ) → each name_byte w ≡ true → All (λ b. 48 ≤ b) w
+high_name : (w : List ℕ) → each name_byte w ≡ true → AllByRecursion (λ b. 48 ≤ b) w
 high_name [] e = tt
 high_name (b ∷ bs) e = let h = and_parts (name_byte b) (each name_byte bs) e in (high_byte b h.0, high_name bs h.1)
 
@@ -129,7 +129,7 @@ bits_complete [] = refl
 bits_complete (true ∷ a) = ap (bit_then true) (bits_complete a)
 bits_complete (false ∷ a) = ap (bit_then false) (bits_complete a)
 
-high_bits : (a : List Bool) → All (λ b. 48 ≤ b) (map bit_letter a)
+high_bits : (a : List Bool) → AllByRecursion (λ b. 48 ≤ b) (map bit_letter a)
 high_bits [] = tt
 high_bits (true ∷ a) = (omega arith, high_bits a)
 high_bits (false ∷ a) = (omega arith, high_bits a)
@@ -166,7 +166,7 @@ word_kind = record {
     read Lots = refl
     read Words = refl
 
-    tall : (a : Kind) → All (λ b. 48 ≤ b) (kind_text a)
+    tall : (a : Kind) → AllByRecursion (λ b. 48 ≤ b) (kind_text a)
     tall Routes = (omega arith, (omega arith, (omega arith, (omega arith, (omega arith, (omega arith, tt))))))
     tall Lots = (omega arith, (omega arith, (omega arith, (omega arith, tt))))
     tall Words = (omega arith, (omega arith, (omega arith, (omega arith, (omega arith, tt)))))
@@ -196,6 +196,6 @@ word_letter = record {
     read K = refl
     read R = refl
 
-    tall : (a : Letter) → All (λ b. 48 ≤ b) (letter_text a)
+    tall : (a : Letter) → AllByRecursion (λ b. 48 ≤ b) (letter_text a)
     tall K = (omega arith, tt)
     tall R = (omega arith, tt)

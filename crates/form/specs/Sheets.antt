@@ -2,7 +2,7 @@
 --     written s      the bytes of the sheet s
 --     Legal s        s is within the limits: counts, numbers, names, ranges, references, word lengths, records, length
 use Rattle.std.specs.Prelude.{◌≡◌, ℕ, suc, ◌^◌, ◌<◌, ◌≤◌, Bool, true, cond, ◌&&◌, ◌||◌, List, [], ◌∷◌, ◌++◌, map, length, codes, decimal, nat_le}
-use Rattle.std.specs.List.{flat_map, AllByRecursion as All}
+use Rattle.std.specs.List.{flat_map, AllByRecursion}
 use Rattle.entry.specs.Entries.{Entry, Known, Range}
 
 -- ## The limits
@@ -168,11 +168,11 @@ pub record LegalBody {P T : Type 0} (PlaceOk : P → Type 0) (least most : ℕ) 
   pub allowance : Number b.allowance
   pub at_least : least ≤ length b.places
   pub at_most : length b.places ≤ most
-  pub places : All PlaceOk b.places
+  pub places : AllByRecursion PlaceOk b.places
   pub elements_most : length b.elements ≤ most_lines
-  pub elements : All (λ e. EntryOk e.0 × TailOk (length b.places) e.1) b.elements
+  pub elements : AllByRecursion (λ e. EntryOk e.0 × TailOk (length b.places) e.1) b.elements
   pub recorded_most : length b.recorded ≤ most_lines
-  pub recorded : All (λ r. (r.0 < length b.elements) × Number r.1) b.recorded
+  pub recorded : AllByRecursion (λ r. (r.0 < length b.elements) × Number r.1) b.recorded
   pub rising : Rising 0 b.recorded
 
 -- within the limits, whatever its length

@@ -1,6 +1,6 @@
 -- The survey of a sheet that is accepted keeps the promise. Assumes nothing.
 use Rattle.std.proofs.Common.{◌≡◌, ℕ, zero, suc, ◌⊎◌, List, [], ◌∷◌, map, length, get_or, Some, None, Ok, Err, Option, Result, refl, ap, inl, inr}
-use Rattle.std.specs.List.{AllByRecursion as All}
+use Rattle.std.specs.List.{AllByRecursion}
 use Rattle.fault.specs.Refusals.{Refusal, refused}
 use Rattle.matroid.specs.Sets.{Elements}
 use Rattle.promise.specs.Surveys.{Outcome, fresh, report, run}
@@ -25,7 +25,7 @@ proper_entry (Known p) ok = tt
 proper_entry (Range low high) ok = ok.0
 
 -- entries that are legal are proper
-proper_in : {T : Type 0} (Ok-tail : T → Type 0) (es : List (Element T)) → All (λ e. EntryOk e.0 × Ok-tail e.1) es → (i : ℕ) → Proper (get_or (map (λ e. e.0) es) i (Known 0))
+proper_in : {T : Type 0} (Ok-tail : T → Type 0) (es : List (Element T)) → AllByRecursion (λ e. EntryOk e.0 × Ok-tail e.1) es → (i : ℕ) → Proper (get_or (map (λ e. e.0) es) i (Known 0))
 proper_in Ok-tail [] all i = tt
 proper_in Ok-tail (e ∷ es) all zero = proper_entry e.0 all.0.0
 proper_in Ok-tail (e ∷ es) all (suc i) = proper_in Ok-tail es all.1 i
