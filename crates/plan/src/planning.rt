@@ -1,7 +1,7 @@
 // The plan of a sheet, by its kind.
 ghost use Rattle.std.specs.Prelude.{◌≡◌, ◌≤◌, false, length, Ok, vec_items};
 ghost use Rattle.fault.specs.Refusals.{starved, told};
-ghost use Rattle.form.specs.Sheets.{Within, lots as aLots, most_lines, routes as aRoutes, words as aWords};
+ghost use Rattle.form.specs.Sheets.{Within, lots as a_lots, most_lines, routes as a_routes, words as a_words};
 ghost use Rattle.sheet.specs.Code.{body_of, bytes, itself, lot_of, route_of, sheet_of, word_of};
 ghost use Rattle.plan.specs.Plans.{sheet_plan};
 
@@ -19,7 +19,7 @@ use words::Words;
 
 // The plan of routes.
 fn plan_routes<'a>(heap: Global, body: &Body<&'a [u8], Route>) -> Result<Vec<u8>, Fault>
-    ensures { length body.now.elements.items ≤ most_lines → starved result ≡ false → told vec_items result ≡ Ok (sheet_plan (aRoutes (body_of bytes route_of body.now))) }
+    ensures { length body.now.elements.items ≤ most_lines → starved result ≡ false → told vec_items result ≡ Ok (sheet_plan (a_routes (body_of bytes route_of body.now))) }
 {
     let tails = gathered::<RouteTail>(heap, body.elements.as_slice())?;
     let matroid = Routes::new(tails)?;
@@ -28,7 +28,7 @@ fn plan_routes<'a>(heap: Global, body: &Body<&'a [u8], Route>) -> Result<Vec<u8>
 
 // The plan of lots.
 fn plan_lots<'a>(heap: Global, body: &Body<Lot<'a>, Place>) -> Result<Vec<u8>, Fault>
-    ensures { length body.now.elements.items ≤ most_lines → starved result ≡ false → told vec_items result ≡ Ok (sheet_plan (aLots (body_of lot_of itself body.now))) }
+    ensures { length body.now.elements.items ≤ most_lines → starved result ≡ false → told vec_items result ≡ Ok (sheet_plan (a_lots (body_of lot_of itself body.now))) }
 {
     let tails = gathered::<LotTail>(heap, body.elements.as_slice())?;
     let caps = gathered::<LotCap>(heap, body.places.as_slice())?;
@@ -38,7 +38,7 @@ fn plan_lots<'a>(heap: Global, body: &Body<Lot<'a>, Place>) -> Result<Vec<u8>, F
 
 // The plan of words.
 fn plan_words<'a>(heap: Global, body: &Body<&'a [u8], &'a [u8]>) -> Result<Vec<u8>, Fault>
-    ensures { length body.now.elements.items ≤ most_lines → starved result ≡ false → told vec_items result ≡ Ok (sheet_plan (aWords (body_of bytes word_of body.now))) }
+    ensures { length body.now.elements.items ≤ most_lines → starved result ≡ false → told vec_items result ≡ Ok (sheet_plan (a_words (body_of bytes word_of body.now))) }
 {
     let tails = gathered::<WordTail>(heap, body.elements.as_slice())?;
     let matroid = Words::new(tails)?;

@@ -4,7 +4,7 @@ ghost use Rattle.std.specs.Str.{bytes_eq};
 ghost use Rattle.form.specs.declared.Kind.{Kind as AKind};
 ghost use Rattle.form.specs.declared.Letter.{Letter as ALetter};
 ghost use Rattle.form.specs.Sheets.{is_name, name_byte};
-ghost use Rattle.form.specs.Reading.{number as a_number, price as aPrice, name as aName, kind as aKind, letter as aLetter, word as aWord};
+ghost use Rattle.form.specs.Reading.{number as a_number, price as a_price, name as a_name, kind as a_kind, letter as a_letter, word as a_word};
 ghost use Rattle.sheet.specs.Code.{valued, bytes, word_of, is_word, is_bit};
 
 use element::{Place, Price};
@@ -53,7 +53,7 @@ impl<'a> Field<'a> for Amount {
 
     ghost value = { λ p. p };
 
-    ghost reads = { λ _. aPrice };
+    ghost reads = { λ _. a_price };
 
     fn of(&self, field: &'a [u8]) -> Option<Price> {
         number_in(field)
@@ -71,7 +71,7 @@ impl<'a> Field<'a> for Title {
 
     ghost value = { bytes };
 
-    ghost reads = { λ _. aName };
+    ghost reads = { λ _. a_name };
 
     fn of(&self, field: &'a [u8]) -> Option<&'a [u8]> {
         if is_name(field) { Some(field) } else { None }
@@ -89,7 +89,7 @@ impl<'a> Field<'a> for KindWord {
 
     ghost value = { λ k. k };
 
-    ghost reads = { λ _. aKind };
+    ghost reads = { λ _. a_kind };
 
     fn of(&self, field: &'a [u8]) -> Option<Kind> {
         kind_in(field)
@@ -107,7 +107,7 @@ impl<'a> Field<'a> for EntryLetter {
 
     ghost value = { λ l. l };
 
-    ghost reads = { λ _. aLetter };
+    ghost reads = { λ _. a_letter };
 
     fn of(&self, field: &'a [u8]) -> Option<Letter> {
         letter_in(field)
@@ -127,7 +127,7 @@ impl<'a> Field<'a> for Bits {
 
     ghost value = { word_of };
 
-    ghost reads = { λ f. aWord f.lamps };
+    ghost reads = { λ f. a_word f.lamps };
 
     fn of(&self, field: &'a [u8]) -> Option<&'a [u8]> {
         if is_word(field, self.lamps) {
@@ -193,7 +193,7 @@ fn is_text(field: &[u8], text: &[u8]) -> bool
 }
 
 fn kind_in(field: &[u8]) -> Option<Kind>
-    ensures { result ≡ aKind field.now }
+    ensures { result ≡ a_kind field.now }
 {
     if is_text(field, b"routes") {
         Some(Kind::Routes)
@@ -207,7 +207,7 @@ fn kind_in(field: &[u8]) -> Option<Kind>
 }
 
 fn letter_in(field: &[u8]) -> Option<Letter>
-    ensures { result ≡ aLetter field.now }
+    ensures { result ≡ a_letter field.now }
 {
     let [only] = field else {
         return None;

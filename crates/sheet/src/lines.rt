@@ -1,5 +1,5 @@
 // The lines of the three sections, for each kind of sheet.
-ghost use Rattle.std.specs.Prelude.{◌≡◌, ℕ, ◌^◌, ◌<◌, ◌≤◌, Bool, ◌&&◌, ltb, List, if◌then◌else◌, Some, None, Ok, Err, Option as Maybe, OnOk, nat_lt};
+ghost use Rattle.std.specs.Prelude.{◌≡◌, ℕ, ◌^◌, ◌<◌, ◌≤◌, Bool, ◌&&◌, List, if◌then◌else◌, Some, None, Ok, Err, Option as Maybe, OnOk, nat_lt};
 ghost use Rattle.entry.specs.Held.{held};
 ghost use Rattle.fault.specs.Refusals.{refused, told};
 ghost use Rattle.form.specs.Sheets.{Element as AnElement, element_text, ended, lot_number_text, lot_text, recorded_text, route_text, word_text};
@@ -186,7 +186,7 @@ pub struct RouteTail {
 
 impl RouteTail {
     fn named(&self, from: u32, to: u32) -> Option<Route>
-        ensures { valued route_of result ≡ (if ltb from self.now.places && nat_lt to self.now.places then Some (from, to) else None) }
+        ensures { valued route_of result ≡ (if nat_lt from self.now.places && nat_lt to self.now.places then Some (from, to) else None) }
     {
         let places = u32::from(self.places);
         if from < places && to < places {
@@ -236,7 +236,7 @@ pub struct LotTail {
 
 impl LotTail {
     fn named(&self, lot: u32) -> Option<Place>
-        ensures { valued itself result ≡ (if ltb lot self.now.lots then Some lot else None) }
+        ensures { valued itself result ≡ (if nat_lt lot self.now.lots then Some lot else None) }
     {
         if lot < u32::from(self.lots) {
             Some(lot as Place)

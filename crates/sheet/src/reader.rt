@@ -1,6 +1,6 @@
 // The lines of a sheet, read one field after another.
 ghost use Rattle.std.specs.Prelude.{◌≡◌, ◌^◌, ◌<◌, ◌≤◌, IfOk, OnOk};
-ghost use Rattle.form.specs.Reading.{field, heading, count, entry as anEntry, name_line, lot_line, recorded_line};
+ghost use Rattle.form.specs.Reading.{field, heading, count, entry as an_entry, name_line, lot_line, recorded_line};
 ghost use Rattle.sheet.specs.Code.{bytes, itself, lot_of};
 ghost use Rattle.sheet.specs.Readers.{Cut, Reads, room, raw_of};
 
@@ -105,7 +105,7 @@ impl<'a> Reader<'a> {
 
     // The letter of an element's line, and its price or its two ends.
     pub fn entry(&mut self) -> Result<RawEntry, Fault>
-        ensures read { Reads raw_of anEntry self.old result self.new }
+        ensures read { Reads raw_of an_entry self.old result self.new }
         ensures room { OnOk result (room self.new < room self.old) }
     {
         match self.field(&EntryLetter, b' ')? {

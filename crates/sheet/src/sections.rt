@@ -1,8 +1,8 @@
 // The three sections of a sheet.
 ghost use Rattle.std.specs.Prelude.{◌≡◌, ◌^◌, ◌<◌, ◌≤◌, false, [], map, IfOk, None, vec_len, vec_capacity, OnOk};
 ghost use Rattle.fault.specs.Refusals.{starved};
-ghost use Rattle.form.specs.Sheets.{body_text, most_lines, recorded_text, section as aSection, written};
-ghost use Rattle.form.specs.Reading.{body as aBody, body_of as sectionsOf, counted, repeated};
+ghost use Rattle.form.specs.Sheets.{body_text, most_lines, recorded_text, section as a_section, written};
+ghost use Rattle.form.specs.Reading.{body as a_body, body_of as sections_of, counted, repeated};
 ghost use Rattle.writer.specs.Written.{Wrote};
 ghost use Rattle.sheet.specs.Code.{body_of, record_of, sheet_of};
 ghost use Rattle.sheet.specs.Readers.{Empty, Reads, room};
@@ -96,7 +96,7 @@ fn sections<'a, P: Row<'a>, T: Tail<'a>>(
     requires line { room reader.old < 2 ^ 32 }
     requires empty { Empty most_lines empty }
     requires most { most ≤ most_lines }
-    ensures { Reads (body_of P.Row.value T.Tail.value) (aBody least most (P.Row.step form.now) T.Tail.form empty.allowance) reader.old result reader.new }
+    ensures { Reads (body_of P.Row.value T.Tail.value) (a_body least most (P.Row.step form.now) T.Tail.form empty.allowance) reader.old result reader.new }
 {
     let Body {
         allowance,
@@ -129,7 +129,7 @@ pub fn by_kind<'a>(
     allowance: u32,
 ) -> Result<Sheet<'a>, Fault>
     requires { room reader.old < 2 ^ 32 }
-    ensures { starved result ≡ false → Reads sheet_of (sectionsOf kind allowance) reader.old result reader.new }
+    ensures { starved result ≡ false → Reads sheet_of (sections_of kind allowance) reader.old result reader.new }
 {
     match kind {
         Kind::Routes => match Body::empty(heap, allowance) {
@@ -158,7 +158,7 @@ pub fn by_kind<'a>(
 
 // A section: its count, and its lines.
 fn write_section<'a, F: Row<'a>>(writer: &mut Writer, form: &F, items: &[F::Item])
-    ensures { Wrote writer.old (aSection F.Row.text (map F.Row.value items.now)) writer.new }
+    ensures { Wrote writer.old (a_section F.Row.text (map F.Row.value items.now)) writer.new }
 {
     writer.number(items.len() as u64);
     writer.byte(b'\n');
@@ -169,7 +169,7 @@ fn write_section<'a, F: Row<'a>>(writer: &mut Writer, form: &F, items: &[F::Item
 
 // Lines of elements and prices, after their count.
 pub fn write_lines(writer: &mut Writer, lines: &[Line])
-    ensures { Wrote writer.old (aSection recorded_text (map record_of lines.now)) writer.new }
+    ensures { Wrote writer.old (a_section recorded_text (map record_of lines.now)) writer.new }
 {
     write_section(writer, &RecordRow { elements: 0 }, lines);
 }
