@@ -3,7 +3,7 @@
 
 The plans have to be the same bytes. Work is counted in instructions by callgrind, which gives the same number at each run.
 'Planning' is a whole run less one of the same sheet with the allowance 0, which reads the sheet and walks once.
-Use: bench/compare.py [--sizes], after `rt check pitplan`. With --sizes it shows how the work grows with the elements."""
+Use: bench/compare.py [--sizes], after `rt run` in crates/pitplan. With --sizes it shows how the work grows with the elements."""
 import os
 import random
 import re
@@ -12,7 +12,7 @@ import sys
 import tempfile
 
 HERE = os.path.dirname(os.path.abspath(__file__))
-PROVED = os.path.join(HERE, "..", "target", "bin", "pitplan")
+PROVED = os.path.join(HERE, "..", "crates", "pitplan", "out", "pitplan")
 
 
 def element(rng, shape, tail):

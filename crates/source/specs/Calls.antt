@@ -2,7 +2,7 @@
 --     after_all σ cs      the source after the calls cs
 --     payments σ cs       how many of them gave a price that counts against the allowance
 --     Lasts σ             no calls change prices or depth, and the allowance pays for what they give
---     PaysOnce σ         no calls pay for an element twice, where everything is kept
+--     PaysOnce σ          no calls pay for an element twice, where everything is kept
 use Rattle.std.specs.Prelude.{◌≡◌, ℕ, ◌+◌, ◌-◌, ◌≤◌, Bool, true, false, cond, not, ◌&&◌, List, [], ◌∷◌, map, Some, None, Option, ◌==◌}
 use Rattle.source.specs.Supplies.{Supply, Verdict, refused, given, verdict, after}
 

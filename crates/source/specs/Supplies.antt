@@ -2,7 +2,7 @@
 --     answered σ d e   what a price call for e answers, where a refusal comes from the depth d
 --     after σ k e      the source after it, where k says whether a price for e makes e free
 use Rattle.std.specs.Prelude.{◌≡◌, ℕ, ◌+◌, ◌-◌, ◌≤◌, min, Bool, true, false, cond, not, ◌&&◌, ◌||◌, is_some, Some, None, Ok, Err, Option, Result, ◌==◌}
-use Rattle.fault.specs.Refusals.{Refusal, refused as refusal-of}
+use Rattle.fault.specs.Refusals.{Refusal, refused as refusal_of}
 
 -- the prices, how many more may be asked for (None: unlimited), the elements that cost nothing of that, and the depth
 pub record Supply : Type 0 where
@@ -57,7 +57,7 @@ refusal_number lacking = 11
 
 -- a verdict for e as an answer: a refusal is about e, and comes from the depth d
 abbrev pub spoken : Verdict → ℕ → ℕ → Result ℕ Refusal
-spoken (refused c) d e = Err (refusal-of (refusal_number c) e d)
+spoken (refused c) d e = Err (refusal_of (refusal_number c) e d)
 spoken (given p) d e = Ok p
 
 -- what a price call for e answers, where a refusal comes from the depth d
