@@ -1,6 +1,6 @@
+// Trials of the kinds: their answers for every set of small examples, compared with a trial of every part, and each refusal.
 #![tactic(auto)]
 
-// Trials of the kinds: their answers for every set of small examples, compared with a trial of every part, and each refusal.
 #[cfg(test)]
 mod tests {
     use element::{Element, MARKS};

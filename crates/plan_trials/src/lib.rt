@@ -1,5 +1,5 @@
+// Trials of plans, from bytes to bytes.
 #![tactic(auto)]
 
-// Trials of plans, from bytes to bytes.
 #[cfg(test)]
 mod tests;

@@ -1,6 +1,6 @@
+// Trials of the sheet's reader and writer, and of what they answer with.
 #![tactic(auto)]
 
-// Trials of the sheet's reader and writer, and of what they answer with.
 #[cfg(test)]
 mod refusals;
 #[cfg(test)]

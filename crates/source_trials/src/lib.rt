@@ -1,5 +1,5 @@
+// Piles of layers at work.
 #![tactic(auto)]
 
-// Piles of layers at work.
 #[cfg(test)]
 mod tests;

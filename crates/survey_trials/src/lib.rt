@@ -1,5 +1,5 @@
+// Surveys at work: steps, runs, notes, reports and lists of requests.
 #![tactic(auto)]
 
-// Surveys at work: steps, runs, notes, reports and lists of requests.
 #[cfg(test)]
 mod tests;
