@@ -54,10 +54,7 @@ impl Entry {
     pub fn is_known(&self) -> bool
         ensures { result ≡ known (held self.now) }
     {
-        match self {
-            Entry::Known(_) => true,
-            Entry::Range(_) => false,
-        }
+        matches!(self, Entry::Known(_))
     }
 
     // Whether the price lies strictly inside the range; never for a known entry.

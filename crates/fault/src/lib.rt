@@ -2,10 +2,12 @@
 #![tactic(auto)]
 
 ghost use Rattle.std.specs.Prelude.{◌≡◌, Some};
+ghost use Rattle.fault.specs.declared.Fault.TheVariants.{NoMemory};
 ghost use Rattle.fault.specs.Refusals.{refusal};
 ghost use Rattle.fault.specs.Words.{sentence};
 
 use element::Element;
+use std::alloc::AllocError;
 use std::fmt;
 
 // Why a call declined.
@@ -103,6 +105,14 @@ impl Fault {
             | Fault::AllowanceSpent { depth, .. } => *depth,
             _ => 0,
         }
+    }
+}
+
+impl From<AllocError> for Fault {
+    ghost from_gives = { λ _ f. f ≡ NoMemory };
+
+    fn from(_: AllocError) -> Fault {
+        Self::NoMemory
     }
 }
 

@@ -41,8 +41,7 @@ impl<S: Source> Quota<S> {
     pub fn number(&self) -> u32
         ensures { result ≡ self.now.number }
     {
-        let Quota { number, .. } = self;
-        *number
+        self.number
     }
 
     // Raises the number, at most to 4294967295.
@@ -98,10 +97,8 @@ impl<S: Source> Source for Quota<S> {
     }
 
     fn left(&self) -> Option<u32> {
-        match self.below.left() {
-            Some(left) => Some(self.number.min(left)),
-            None => Some(self.number),
-        }
+        let below = self.below.left();
+        Some(below.map_or(self.number, |left| self.number.min(left)))
     }
 
     fn free(&self, element: Element) -> bool {

@@ -3,14 +3,15 @@
 --     tabled t e      the price of e in the table t
 --     blank           no prices
 --     posted f e p    the prices f, with p at e
-use Rattle.std.specs.Prelude.{ℕ, cond, List, [], ◌∷◌, Some, None, Option, ◌==◌, slice_index_or}
+use Rattle.std.specs.List.{find}
+use Rattle.std.specs.Option.{option_map}
+use Rattle.std.specs.Prelude.{ℕ, cond, List, None, Option, ◌==◌, slice_index_or}
 use Rattle.element.specs.declared.Line.{Line}
 use Rattle.source.specs.declared.table.Table.{Table}
 
 -- the price of the first line for e, or none
 abbrev pub recorded : List Line → ℕ → Option ℕ
-recorded [] e = None
-recorded (l ∷ ls) e = cond (l.element == e) (Some l.price) (recorded ls e)
+recorded ls e = option_map (λ l. l.price) (find (λ l. l.element == e) ls)
 
 -- what stands at the place e, and none past the last place
 abbrev pub listed : List (Option ℕ) → ℕ → Option ℕ

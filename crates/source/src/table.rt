@@ -18,9 +18,8 @@ impl Table {
     pub fn new() -> Table
         ensures { tabled result ≡ blank }
     {
-        Table {
-            prices: no_prices(),
-        }
+        let prices = [None; MARKS];
+        Table { prices }
     }
 
     // The price at the element's place.
@@ -39,6 +38,7 @@ impl Table {
     }
 }
 
+// The last three answers are those of every plain source: a provided method of `Source` would give them to layers too.
 impl Source for Table {
     ghost meaning = { λ s. plain (tabled s) };
 
@@ -64,11 +64,4 @@ impl Source for Table {
     fn depth(&self) -> u8 {
         0
     }
-}
-
-// A place for each element, without a price.
-fn no_prices() -> [Option<Price>; MARKS]
-    ensures { listed result ≡ blank }
-{
-    [None; MARKS]
 }

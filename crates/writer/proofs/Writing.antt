@@ -1,13 +1,12 @@
 -- One text after another. Assumes nothing.
-use Rattle.std.proofs.Common.{◌≡◌, ℕ, ◌+◌, ◌/◌, ◌%◌, ◌^◌, ◌<◌, ◌≤◌, Bool, true, false, cond, List, [], ◌∷◌, ◌++◌, length, Ok, Err, vec_items, vec_len, decimal, Result, Vec, sym, refl, ap, ◌∙◌, subst, inl, inr, arith, length-append}
+use Rattle.std.proofs.Common.{◌≡◌, ℕ, ◌+◌, Bool, true, false, cond, List, [], ◌++◌, length, Ok, Err, vec_items, vec_len, Result, Vec, sym, refl, ap, ◌∙◌, subst, inl, inr, arith, length-append}
 use Rattle.std.specs.declared.alloc.Global.{Global}
-use Rattle.std.proofs.lemmas.Fmt.{decimal_digit, decimal_step}
 use Rattle.std.proofs.lemmas.List.{append_assoc, append-nil}
 use Rattle.std.proofs.lemmas.Bool.{cases_Bool, eq-eqb, false≢true}
 use Rattle.fault.specs.declared.Fault.{Fault}
 use Rattle.fault.specs.Refusals.{Refusal, refusal, refused, starved, told}
 use Rattle.writer.specs.declared.values.Writer.{Writer}
-use Rattle.writer.specs.Written.{Blank, Wrote, finished}
+use Rattle.writer.specs.Written.{Blank, Wrote, finished, full}
 
 -- nothing is written
 pub wrote_none : (w : Writer) → Wrote w [] w
@@ -34,23 +33,12 @@ wrote_both {old} {mid} {new} {s} {t} a b = record {
       (j.0, k.1 ∙ (ap (λ x. x ++ t) j.1 ∙ append_assoc (vec_items old.bytes) s t));
   lacked = λ e f.
       let l = length-append s t in
-      elim (cases_Bool mid.full) [
+      elim (cases_Bool (full mid)) [
         | inl h ↦ omega (arith, a.lacked h f, l)
         | inr h ↦ omega (arith, b.lacked e h, len_after old mid s (a.kept h).1, a.room, l)
       ];
   room = omega (arith, a.room, b.room);
 }
-
--- ## The digits of a number
-
-pub number_more : (old mid at new : Writer) (n : ℕ) → 10 ≤ n → n < 2 ^ 64 → mid ≡ at → Wrote old (decimal (n / 10)) at → Wrote mid ((48 + n % 10) ∷ []) new → Wrote old (decimal n) new
-number_more old mid at new n low high e a b =
-    wrote_as (sym (decimal_step n low high)) (wrote_both a (subst (λ (w : Writer). Wrote w ((48 + n % 10) ∷ []) new) e b))
-
-pub number_last : (old mid new : Writer) (n : ℕ) → n < 10 → mid ≡ old → Wrote mid ((48 + n % 10) ∷ []) new → Wrote old (decimal n) new
-number_last old mid new n low e b =
-    let r : n % 10 ≡ n = omega arith in
-    wrote_as (ap (λ d. (48 + d) ∷ []) r ∙ sym (decimal_digit n low)) (subst (λ (w : Writer). Wrote w ((48 + n % 10) ∷ []) new) e b)
 
 -- ## The whole text
 
@@ -68,8 +56,8 @@ starved_err {X} {A} value want r x f p q n s =
 
 -- what is finished is what was written
 pub written_out : {old new : Writer} {room : ℕ} {t : List ℕ} (r : Result (Vec ℕ Global) Fault) → Blank room old → Wrote old t new → told vec_items r ≡ finished new → starved r ≡ false → told vec_items r ≡ Ok t
-written_out {old} {new} {room} {t} r b w e s = by new.full refl e
+written_out {old} {new} {room} {t} r b w e s = by (full new) refl e
   where
-    by : (full : Bool) → new.full ≡ full → told vec_items r ≡ cond full (Err (refused 0 0 0)) (Ok (vec_items new.bytes)) → told vec_items r ≡ Ok t
+    by : (lost : Bool) → full new ≡ lost → told vec_items r ≡ cond lost (Err (refused 0 0 0)) (Ok (vec_items new.bytes)) → told vec_items r ≡ Ok t
     by true h e = absurd (false≢true (sym s ∙ no_memory vec_items r e))
     by false h e = e ∙ ap (λ (x : List ℕ). Ok x) ((w.kept h).1 ∙ ap (λ x. x ++ t) b.bytes)

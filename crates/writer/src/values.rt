@@ -3,13 +3,14 @@ ghost use Rattle.fault.specs.Refusals.{refusal, refused, told};
 ghost use Rattle.writer.specs.Written.{Blank, Wrote, finished};
 
 use fault::Fault;
-use std::alloc::Global;
+use itoa::Buffer;
+use std::alloc::{AllocError, Global};
 
-// The bytes written so far. Once bytes find no room, it is full, and what is written after that is lost.
+// The bytes written so far, and whether they found room. After bytes that found none, what is written is lost.
 #[derive(Drop)]
 pub struct Writer {
     bytes: Vec<u8>,
-    full: bool,
+    status: Result<(), AllocError>,
 }
 
 impl Writer {
@@ -18,20 +19,19 @@ impl Writer {
         ensures made { IfOk result (λ w. Blank room w) }
         ensures refused { IfErr result (λ f. refusal f ≡ refused 0 0 0) }
     {
-        match Vec::with_capacity(heap, room) {
-            Ok(bytes) => Ok(Writer { bytes, full: false }),
-            Err(_) => Err(Fault::NoMemory),
-        }
+        let bytes = Vec::with_capacity(heap, room)?;
+        Ok(Writer {
+            bytes,
+            status: Ok(()),
+        })
     }
 
     // The bytes after those written before.
     pub fn put(&mut self, bytes: &[u8])
         ensures { Wrote self.old bytes.now self.new }
     {
-        if !self.full {
-            if self.bytes.extend_from_slice(bytes).is_err() {
-                self.full = true;
-            }
+        if self.status.is_ok() {
+            self.status = self.bytes.extend_from_slice(bytes);
         }
     }
 
@@ -46,20 +46,16 @@ impl Writer {
     pub fn number(&mut self, n: u64)
         ensures { Wrote self.old (decimal n) self.new }
     {
-        if n >= 10 {
-            self.number(n / 10);
-        }
-        self.byte(b'0' + (n % 10) as u8);
+        let mut digits = Buffer::new();
+        self.put(digits.format(n).as_bytes());
     }
 
     // All that was written, unless it found no room.
     pub fn finish(self) -> Result<Vec<u8>, Fault>
         ensures { told vec_items result ≡ finished self }
     {
-        let Writer { bytes, full } = self;
-        if full {
-            return Err(Fault::NoMemory);
-        }
+        let Writer { bytes, status } = self;
+        status?;
         Ok(bytes)
     }
 }
