@@ -1,11 +1,11 @@
 -- Marks that are set, and marks that a loop shows one by one.
-use Rattle.std.proofs.Common.{◌≡◌, ℕ, zero, suc, ◌+◌, ◌<◌, ◌≤◌, min, Bool, true, false, cond, ◌&&◌, ◌||◌, ltb, leb, List, [], ◌∷◌, length, get_or, set, replicate, sym, refl, ap, ◌∙◌, inl, inr, arith, length-set, get_or-set_other, get_or-set_same}
-use Rattle.std.proofs.lemmas.List.{same_lists, get_or-replicate, get_or_past, length-replicate}
-use Rattle.std.proofs.lemmas.Bool.{cases_eq, cases_lt, lt-ltb, le-ltb, le-leb, eq-eqb, and_parts, cond-true, cond-false}
+use Rattle.std.proofs.Common.{◌≡◌, ℕ, zero, suc, ◌+◌, ◌<◌, ◌≤◌, Bool, true, false, cond, ◌&&◌, ◌||◌, ltb, leb, List, [], ◌∷◌, Option, Some, None, length, get_or, set, replicate, sym, refl, ap, ◌∙◌, inl, inr, arith, length-set, get_or-set_other, get_or-set_same}
+use Rattle.std.proofs.lemmas.List.{same_lists, get_or-replicate, get_or_past, get_or_default, length-replicate}
+use Rattle.std.proofs.lemmas.Bool.{cases_eq, cases_lt, lt-ltb, le-ltb, le-leb, eq-eqb, and_from, cond-true, cond-false}
 use Rattle.element.specs.Marks.{all_marks}
 use Rattle.matroid.specs.Sets.{Elements, with, without}
-use Rattle.matroid.specs.Questions.{marked, shown_from, shown, lowest_mark}
-use Rattle.matroid.proofs.Members.{with_other, without_here, without_other, lowest_cases, lowest_before}
+use Rattle.matroid.specs.Questions.{marked, shown_from, shown, lowest_mark, next_mark}
+use Rattle.matroid.proofs.Members.{with_other, without_here, without_other, lowest_none, lowest_is}
 
 -- marks that are all unset
 pub marked_none : (n i : ℕ) → marked (replicate n false) i ≡ false
@@ -23,17 +23,6 @@ marked_unset marks e l i = elim (cases_eq i e) [
   | inl z ↦ ap (marked (set marks e false)) z ∙ get_or-set_same marks e false false l ∙ sym (ap (without (marked marks) e) z ∙ without_here (marked marks) e)
   | inr z ↦ get_or-set_other marks e i false false z ∙ sym (without_other (marked marks) e i z)
 ]
-
--- the lowest mark is one, and there is none below it
-pub lowest_marked : (n k : ℕ) (marks : List Bool) → k ≤ length marks → lowest_mark n marks < k → marked marks (lowest_mark n marks) ≡ true
-lowest_marked n k marks h l = elim (lowest_cases (length marks) (λ i. leb n i && marked marks i)) [
-  | inl f ↦ (and_parts (leb n (lowest_mark n marks)) (marked marks (lowest_mark n marks)) f.1).1
-  | inr f ↦ let e = f.0 in absurd (omega arith)
-]
-
-pub lowest_unmarked : (marks : List Bool) (i : ℕ) → i < lowest_mark 0 marks → marked marks i ≡ false
-lowest_unmarked marks i l =
-    ap (λ (b : Bool). b && marked marks i) (sym (le-leb 0 i (omega arith))) ∙ lowest_before (length marks) (λ i. leb 0 i && marked marks i) i l
 
 pub length_shown : (k : ℕ) (C : Elements) (xs : List Bool) → length (shown_from k C xs) ≡ length xs
 length_shown k C [] = refl
@@ -65,9 +54,6 @@ pub record Showing (C : Elements) (old new : List Bool) (k : ℕ) : Type 0 where
   pub kept : (j : ℕ) (d : Bool) → k ≤ j → get_or new j d ≡ get_or old j d
   pub as_long : length new ≡ length old
 
-pub showing_none : (C : Elements) (old : List Bool) → Showing C old old 0
-showing_none C old = record { done = λ j d l. absurd (omega arith); kept = λ j d l. refl; as_long = refl }
-
 pub showing_more : (C : Elements) (old new : List Bool) (k : ℕ) (b : Bool) → k < length old → Showing C old new k → b ≡ C k → Showing C old (set new k b) (k + 1)
 showing_more C old new k b l h q = record {
   done = λ j d m. elim (cases_eq j k) [
@@ -89,11 +75,30 @@ showing_skip C old new k h q = record {
   as_long = h.as_long;
 }
 
-pub showing_all : (C : Elements) (old new : List Bool) (k : ℕ) → k ≡ min (length old) all_marks → Showing C old new k → new ≡ shown C old
+-- the marks of an element are shown, and the others stay
+pub showing_element : (C : Elements) (old new : List Bool) (k : ℕ) (b : Bool) → k < length old → k < all_marks → Showing (marked (shown C old)) old new k → b ≡ C k
+    → Showing (marked (shown C old)) old (set new k b) (k + 1)
+showing_element C old new k b l m h q = showing_more (marked (shown C old)) old new k b l h (q ∙ sym (shown_here C old k false l m))
+
+pub showing_other : (C : Elements) (old new : List Bool) (k : ℕ) → k < length old → all_marks ≤ k → Showing (marked (shown C old)) old new k
+    → Showing (marked (shown C old)) old (set new k (get_or new k false)) (k + 1)
+showing_other C old new k l m h =
+    showing_more (marked (shown C old)) old new k (get_or new k false) l h (h.kept k false (omega arith) ∙ sym (shown_beyond C old k false l m))
+
+pub showing_all : (C : Elements) (old new : List Bool) (k : ℕ) → length old ≤ k → Showing (marked (shown C old)) old new k → new ≡ shown C old
 showing_all C old new k y h =
     let e = h.as_long in
     same_lists new (shown C old) (h.as_long ∙ sym (length_shown 0 C old)) (λ j d l.
-    elim (cases_lt j all_marks) [
-      | inl a ↦ h.done j d (omega arith) ∙ sym (shown_here C old j d (omega arith) a)
-      | inr a ↦ h.kept j d (omega arith) ∙ sym (shown_beyond C old j d (omega arith) a)
-    ])
+    h.done j d (omega arith) ∙ get_or_default (shown C old) j false d (let f = length_shown 0 C old in omega arith))
+
+-- the first mark that a search from 0 on comes to is the next, and where it comes to none there is none
+module _ (n : ℕ) (marks : List Bool) (i : ℕ) (before : (k : ℕ) → k < i → (leb n k && marked marks k) ≡ false) where
+  pub next_here : i < length marks → n ≤ i → marked marks i ≡ true → Some i ≡ next_mark n marks
+  next_here l m h =
+      let e = lowest_is (length marks) (λ k. leb n k && marked marks k) i l (and_from (leb n i) (marked marks i) (le-leb n i m) h) before in
+      ap Some (sym e) ∙ sym (cond-true {A = Option ℕ} (ltb (lowest_mark n marks) (length marks)) (Some (lowest_mark n marks)) None (lt-ltb (lowest_mark n marks) (length marks) (omega arith)))
+
+  pub next_none : length marks ≤ i → None ≡ next_mark n marks
+  next_none l =
+      let e = lowest_none (length marks) (λ k. leb n k && marked marks k) (λ k m. before k (omega arith)) in
+      sym (cond-false {A = Option ℕ} (ltb (lowest_mark n marks) (length marks)) (Some (lowest_mark n marks)) None (le-ltb (lowest_mark n marks) (length marks) (omega arith)))

@@ -3,7 +3,7 @@
 --     shown C marks              the marks, the first of them as in C
 --     admitted n set e marks     the marks of the set, or why the question is refused whatever is independent
 --     questioned m set e marks   the answer, and the marks for the result after it
-use Rattle.std.specs.Prelude.{ℕ, suc, Bool, false, cond, ◌&&◌, ◌||◌, List, [], ◌∷◌, length, take, Ok, Err, Result, nat_le, nat_lt, slice_index_or}
+use Rattle.std.specs.Prelude.{ℕ, suc, Bool, false, cond, ◌&&◌, ◌||◌, List, [], ◌∷◌, length, take, Option, Some, None, Ok, Err, Result, nat_le, nat_lt, slice_index_or}
 use Rattle.element.specs.Marks.{all_marks}
 use Rattle.fault.specs.Refusals.{Refusal, refused}
 use Rattle.matroid.specs.declared.Closing.{Closing}
@@ -28,6 +28,10 @@ shown C marks = shown_from 0 C marks
 -- the lowest mark at or above n, or the number of marks where there is none
 abbrev pub lowest_mark : ℕ → List Bool → ℕ
 lowest_mark n marks = lowest (length marks) (λ i. nat_le n i && marked marks i)
+
+-- that mark, if there is one
+abbrev pub next_mark : ℕ → List Bool → Option ℕ
+next_mark n marks = cond (nat_lt (lowest_mark n marks) (length marks)) (Some (lowest_mark n marks)) None
 
 -- the members, all below n and without e, or the lowest that is not, or e
 abbrev pub apart : ℕ → ℕ → List Bool → Result (List Bool) Refusal

@@ -7,11 +7,13 @@ ghost use Rattle.matroid.specs.Matroids.{Meaning, Laws};
 ghost use Rattle.matroid.specs.Questions.{questioned};
 
 mod asking;
+mod listed;
 mod theory;
 
-pub use asking::{Outcome, admit, conclude, lowest_mark, show};
+pub use asking::{admit, conclude, lowest_mark, show};
 use element::Element;
 use fault::Fault;
+pub use listed::Listed;
 pub use theory::theory_holds;
 
 // What a set that is independent makes with one more element.

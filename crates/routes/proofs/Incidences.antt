@@ -1,18 +1,13 @@
 -- What is noted of each place, route by route.
-use Rattle.std.proofs.Common.{◌≡◌, ℕ, zero, suc, ◌+◌, ◌*◌, ◌^◌, ◌<◌, ◌≤◌, Bool, true, false, cond, eqb, List, replicate, ap, add-one, arith, below_more}
+use Rattle.std.proofs.Common.{ℕ, zero, suc, ◌+◌, ◌*◌, ◌^◌, ◌<◌, ◌≤◌, Bool, true, false, cond, eqb, List, replicate, ap, arith}
 use lib.ListN.{get_or-replicate}
-use Rattle.std.proofs.lemmas.Bool.{cond-true, cond-false}
-use Rattle.matroid.specs.Sets.{Elements, sum}
+use Rattle.matroid.specs.Sets.{Elements}
 use Rattle.kinds.specs.declared.Route.{Route}
 use Rattle.routes.specs.declared.two_core.Incidence.{Incidence}
 use Rattle.element.specs.Marks.{all_marks}
 use Rattle.kinds.specs.Kinds.{touches, touch}
 use Rattle.kinds.specs.Lists.{from, to, all_places}
-use Rattle.routes.specs.Cores.{number_sums, degree, numbers, Tallied, Attached, EndsArePlaces, touch_number}
-
--- one route more
-pub sum_more : (i : ℕ) (v : ℕ → ℕ) (S : Elements) → sum (i + 1) v S ≡ cond (S i) (v i) 0 + sum i v S
-sum_more i v S = ap (λ (k : ℕ). sum k v S) (add-one i)
+use Rattle.routes.specs.Cores.{number_sums, degree, numbers, Tallied, Attached, touch_number}
 
 cond_at_most : (t : Bool) (k : ℕ) → cond t k 0 ≤ k
 cond_at_most true k = omega arith
@@ -36,39 +31,6 @@ small_number_sums (suc n) a b S c l =
     let w = cond_at_most (S n) (touch_number a b c n) in
     omega arith
 
-pub tallied_skip : (i : ℕ) (rs : List Route) (S : Elements) (places : List Incidence) → Tallied i rs S places → S i ≡ false → Tallied (i + 1) rs S places
-tallied_skip i rs S places t h = record {
-  degrees = λ c l.
-      let x = sum_more i (touch (from rs) (to rs) c) S in
-      let y = cond-false {A = ℕ} (S i) (touch (from rs) (to rs) c i) 0 h in
-      let z = t.degrees c l in
-      omega arith;
-  numbered = λ c l.
-      let x = sum_more i (touch_number (from rs) (to rs) c) S in
-      let y = cond-false {A = ℕ} (S i) (touch_number (from rs) (to rs) c i) 0 h in
-      let z = t.numbered c l in
-      omega arith;
-}
-
-pub tallied_more : (i : ℕ) (rs : List Route) (S : Elements) (places mid next : List Incidence) → Tallied i rs S places → S i ≡ true
-    → Attached (from rs i) i places mid → Attached (to rs i) i mid next → Tallied (i + 1) rs S next
-tallied_more i rs S places mid next t h p q = record {
-  degrees = λ c l.
-      let x = sum_more i (touch (from rs) (to rs) c) S in
-      let y = cond-true {A = ℕ} (S i) (touch (from rs) (to rs) c i) 0 h in
-      let z = t.degrees c l in
-      let u = p.degrees c l in
-      let v = q.degrees c l in
-      omega arith;
-  numbered = λ c l.
-      let x = sum_more i (touch_number (from rs) (to rs) c) S in
-      let y = cond-true {A = ℕ} (S i) (touch_number (from rs) (to rs) c i) 0 h in
-      let z = t.numbered c l in
-      let u = p.numbered c l in
-      let v = q.numbered c l in
-      omega arith;
-}
-
 -- what is noted is small enough for one more
 pub room : (i : ℕ) (rs : List Route) (S : Elements) (places : List Incidence) → i < all_marks → Tallied i rs S places → (c : ℕ) → c < all_places
     → (degree places c < 2 * all_marks) × (numbers places c ≤ (2 * all_marks) * i)
@@ -88,9 +50,6 @@ tallied_none rs S = record {
   degrees = λ c l. ap (λ (s : Incidence). s.degree) (get_or-replicate all_places c untouched untouched l);
   numbered = λ c l. ap (λ (s : Incidence). s.numbers) (get_or-replicate all_places c untouched untouched l);
 }
-
-pub ends_more : (i : ℕ) (rs : List Route) → EndsArePlaces i rs → from rs i < all_places → to rs i < all_places → EndsArePlaces (i + 1) rs
-ends_more i rs h a b = record { froms = below_more _ _ h.froms a; tos = below_more _ _ h.tos b }
 
 pub room_attach : (i : ℕ) (rs : List Route) (S : Elements) (places : List Incidence) → i < all_marks → Tallied i rs S places → (c : ℕ) → c < all_places
     → (degree places c < 2 ^ 31) × (numbers places c < 2 ^ 31)

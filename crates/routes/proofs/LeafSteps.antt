@@ -1,5 +1,5 @@
 -- The only route at a leaf is stripped.
-use Rattle.std.proofs.Common.{◌≡◌, ℕ, ◌+◌, ◌<◌, ◌≤◌, Bool, true, false, cond, eqb, List, length, set, sym, refl, ap, ◌∙◌, inl, inr, arith}
+use Rattle.std.proofs.Common.{◌≡◌, ℕ, ◌+◌, ◌<◌, Bool, true, false, cond, eqb, List, length, set, sym, refl, ap, ◌∙◌, inl, inr, arith}
 use Rattle.std.proofs.lemmas.Bool.{cases_eq, cond-true, cond-false, eq-eqb, ne_eqb}
 use Rattle.matroid.specs.Sets.{without, sum}
 use Rattle.matroid.proofs.Members.{without_parts}
@@ -11,7 +11,7 @@ use Rattle.element.specs.Marks.{all_marks}
 use Rattle.matroid.specs.Questions.{marked}
 use Rattle.kinds.specs.Kinds.{touches, touch}
 use Rattle.kinds.specs.Lists.{from, to, all_places}
-use Rattle.routes.specs.Cores.{touch_number, degree, numbers, Tallied, Attached, Leaf, LeafStripped}
+use Rattle.routes.specs.Cores.{touch_number, degree, numbers, Tallied, Leaf, LeafStripped}
 use Rattle.routes.proofs.Leaves.{leaf, stripped}
 
 split : (n : ℕ) (v : ℕ → ℕ) (l : List Bool) (t : ℕ) → t < n → t < length l → marked l t ≡ true → sum n v (marked l) ≡ v t + sum n v (marked (set l t false))
@@ -35,39 +35,8 @@ leaf_found rs l places c n k m t o =
       numbered = λ x p. t.numbered x p ∙ split (length rs) (touch_number (from rs) (to rs) x) l (numbers places c) below (omega arith) has;
     }
 
-same_place : (x y k : ℕ) → x ≡ y → cond (eqb x y) k 0 ≡ k
-same_place x y k e = cond-true {A = ℕ} (eqb x y) k 0 (eq-eqb x y e)
-
 other_place : (x y k : ℕ) → (x ≡ y → ⊥) → cond (eqb x y) k 0 ≡ 0
 other_place x y k e = cond-false {A = ℕ} (eqb x y) k 0 (ne_eqb x y e)
-
--- both ends can be taken off
-pub from_detaches : (rs : List Route) (l : List Bool) (places : List Incidence) (c t : ℕ) → Leaf rs l places c t → from rs t < all_places
-    → (0 < degree places (from rs t)) × (t ≤ numbers places (from rs t))
-from_detaches rs l places c t f h =
-    let a = f.degrees (from rs t) h in
-    let b = f.numbered (from rs t) h in
-    let x = same_place (from rs t) (from rs t) 1 refl in
-    let y = same_place (from rs t) (from rs t) t refl in
-    (omega arith, omega arith)
-
-pub to_detaches : (rs : List Route) (l : List Bool) (places mid : List Incidence) (c t : ℕ) → Leaf rs l places c t → to rs t < all_places
-    → Attached (from rs t) t mid places → (0 < degree mid (to rs t)) × (t ≤ numbers mid (to rs t))
-to_detaches rs l places mid c t f h g =
-    let a = f.degrees (to rs t) h in
-    let b = f.numbered (to rs t) h in
-    let u = g.degrees (to rs t) h in
-    let v = g.numbered (to rs t) h in
-    let x = same_place (to rs t) (to rs t) 1 refl in
-    let y = same_place (to rs t) (to rs t) t refl in
-    (omega arith, omega arith)
-
-pub tallied_less : (rs : List Route) (l : List Bool) (places mid next : List Incidence) (c t : ℕ) → Leaf rs l places c t
-    → Attached (from rs t) t mid places → Attached (to rs t) t next mid → Tallied (length rs) rs (marked (set l t false)) next
-tallied_less rs l places mid next c t f p q = record {
-  degrees = λ x h. let a = f.degrees x h in let u = p.degrees x h in let v = q.degrees x h in omega arith;
-  numbered = λ x h. let a = f.numbered x h in let u = p.numbered x h in let v = q.numbered x h in omega arith;
-}
 
 -- of all places, a route that touches c once touches only c and its other end
 one_other : (rs : List Route) (t c : ℕ) → touch (from rs) (to rs) c t ≡ 1 → (x : ℕ) → (x ≡ cond (eqb (from rs t) c) (to rs t) (from rs t) → ⊥) → (x ≡ c → ⊥)

@@ -31,11 +31,8 @@ reduced_none n w v S p u h z = record {
 module _ (n : ℕ) (w v v' : ℕ → ℕ) (S : Elements) (i : ℕ) (p p' : ℕ → ℕ) (u u' : ℕ → Bool) (c low : ℕ)
     (s : Reduced n w v S i p u) (here : S i ≡ true) (li : i < n) (lc : c < 64) (free : u c ≡ false) (one : bit (v i) c ≡ true)
     (lo : Cleared (v i) c low) (eliminated : (j : ℕ) → j < n → v' j ≡ cond (bit (v j) c) (bit_xor (v j) low) (v j))
-    (p-here : p' i ≡ c) (p-other : (k : ℕ) → (k ≡ i → ⊥) → p' k ≡ p k)
+    (p-here : p' i ≡ c) (p-old : (k : ℕ) → k < i → p' k ≡ p k)
     (u-here : u' c ≡ true) (u-other : (k : ℕ) → (k ≡ c → ⊥) → u' k ≡ u k) where
-  p_old : (k : ℕ) → k < i → p' k ≡ p k
-  p_old k l = p-other k (λ e. omega arith)
-
   -- no member before has the bit c
   not_c : (k : ℕ) → k < i → S k ≡ true → (p k ≡ c → ⊥)
   not_c k l h e = both_ways (u c) free (ap u (sym e) ∙ s.used k l h)
@@ -59,28 +56,28 @@ module _ (n : ℕ) (w v v' : ℕ → ℕ) (S : Elements) (i : ℕ) (p p' : ℕ �
     equivalent = equivalent_more n w v v' s.equivalent (eliminated_equivalent n v v' c low lc (lo c lc ∙ ap (λ (b : Bool). not b && bit (v i) c) (eq-eqb c c refl)) eliminated);
     below = λ k l h. elim (last_or k i l) [
       | inl e ↦ let a : p' k ≡ c = ap p' e ∙ p-here in omega arith
-      | inr m ↦ let a = p_old k m in let b = s.below k m h in omega arith
+      | inr m ↦ let a = p-old k m in let b = s.below k m h in omega arith
     ];
     units = λ k l h x b. elim (last_or k i l) [
       | inl e ↦ ap (λ (y : ℕ). bit (v' y) x) e ∙ unit_here x b ∙ ap (eqb x) (sym p-here ∙ ap p' (sym e))
-      | inr m ↦ ap (λ (y : ℕ). bit y x) (kept k m h) ∙ s.units k m h x b ∙ ap (eqb x) (sym (p_old k m))
+      | inr m ↦ ap (λ (y : ℕ). bit y x) (kept k m h) ∙ s.units k m h x b ∙ ap (eqb x) (sym (p-old k m))
     ];
     used = λ k l h. elim (last_or k i l) [
       | inl e ↦ ap u' (ap p' e ∙ p-here) ∙ u-here
-      | inr m ↦ ap u' (p_old k m) ∙ u-other (p k) (not_c k m h) ∙ s.used k m h
+      | inr m ↦ ap u' (p-old k m) ∙ u-other (p k) (not_c k m h) ∙ s.used k m h
     ];
     pivot = λ x b o. elim (cases_eq x c) [
       | inl e ↦ (i, omega arith, here, p-here ∙ sym e)
-      | inr e ↦ let (k, a, h, q) = s.pivot x b (sym (u-other x e) ∙ o) in (k, omega arith, h, p_old k a ∙ q)
+      | inr e ↦ let (k, a, h, q) = s.pivot x b (sym (u-other x e) ∙ o) in (k, omega arith, h, p-old k a ∙ q)
     ];
     apart = λ j k l m g h q. elim (last_or j i l) [
       | inl e ↦ elim (last_or k i m) [
         | inl f ↦ e ∙ sym f
-        | inr f ↦ absurd (not_c k f h (sym (p_old k f) ∙ sym q ∙ ap p' e ∙ p-here))
+        | inr f ↦ absurd (not_c k f h (sym (p-old k f) ∙ sym q ∙ ap p' e ∙ p-here))
       ]
       | inr e ↦ elim (last_or k i m) [
-        | inl f ↦ absurd (not_c j e g (sym (p_old j e) ∙ q ∙ ap p' f ∙ p-here))
-        | inr f ↦ s.apart j k e f g h (sym (p_old j e) ∙ q ∙ p_old k f)
+        | inl f ↦ absurd (not_c j e g (sym (p-old j e) ∙ q ∙ ap p' f ∙ p-here))
+        | inr f ↦ s.apart j k e f g h (sym (p-old j e) ∙ q ∙ p-old k f)
       ]
     ];
   }

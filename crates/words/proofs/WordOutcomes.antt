@@ -1,5 +1,5 @@
 -- The outcome from the reduced words.
-use Rattle.std.proofs.Common.{◌≡◌, ℕ, ◌<◌, ◌≤◌, Bool, true, false, ◌&&◌, ◌||◌, eqb, ltb, List, length, sym, refl, ap, ◌∙◌, subst, inl, inr, arith}
+use Rattle.std.proofs.Common.{◌≡◌, ℕ, ◌<◌, ◌≤◌, Bool, true, false, ◌&&◌, ◌||◌, eqb, ltb, List, length, Some, None, Ok, sym, refl, ap, ◌∙◌, subst, inl, inr, arith}
 use Rattle.std.proofs.lemmas.Bool.{eq-eqb, eqb-true, and_parts, and_from, or_cases, or_left, lt-ltb, le-ltb, both_ways}
 use Rattle.matroid.specs.Sets.{Elements, with, cut, Part}
 use Rattle.matroid.proofs.Members.{none_false, with_cases, with_here, with_there}
@@ -7,13 +7,12 @@ use Rattle.kinds.specs.Kinds.{bit, words}
 use Rattle.matroid.specs.Circuits.{IsCircuit}
 use Rattle.matroid.specs.Questions.{marked}
 use Rattle.matroid.specs.Outcomes.{OutcomeOf}
-use Rattle.matroid.specs.declared.asking.Outcome.TheVariants.{Independent, Circuit}
 use Rattle.kinds.specs.Meanings.{Dependency}
 use Rattle.kinds.proofs.Dependencies.{no_dependency, no_dependency_independent}
 use Rattle.kinds.proofs.BinaryCircuits.{binary_circuit}
 use Rattle.kinds.specs.Lists.{at, words_of}
 use Rattle.words.specs.declared.elimination.Table.{Table}
-use Rattle.words.specs.Reductions.{Reduced, ReducedBy, Covered}
+use Rattle.words.specs.Reductions.{word_at, pivot_at, Reduced, ReducedBy, Covered, FreeBit}
 use Rattle.words.proofs.Reduced.{combination, combination_cancels, none_cancels, none_with}
 
 cut_in : (i : ℕ) (S : Elements) (k : ℕ) → cut i S k ≡ true → S k ≡ true
@@ -77,23 +76,28 @@ module _ (n : ℕ) (w v : ℕ → ℕ) (S : Elements) (p : ℕ → ℕ) (u : ℕ
       h k b ∙ ap (λ (x : Bool). eqb k e || ((x && S k) && bit (v e) (p k))) (sym (lt-ltb k n b))
       ∙ binary_circuit n 64 (λ i c. bit (w i) c) S e reduced_independent (combination e v S n p) (covered_with e l z covered) k b
 
--- the outcome that the code finds once each element of the set is taken in
-module _ (ws : List ℕ) (set : List Bool) (t : Table) (i : ℕ) (all : i ≡ length ws) (r : ReducedBy ws set i t) where
-  whole : ReducedBy ws set (length ws) t
-  whole = subst (λ (k : ℕ). ReducedBy ws set k t) all r
+-- the outcome that the code finds once each element of the set is taken in; i and x are again the number of the words and e
+module _ (ws : List ℕ) (set : List Bool) (t : Table) (i : ℕ) (all : i ≡ length ws) (r : ReducedBy ws set i t) (e x : ℕ) (same : x ≡ e) (l : e < length ws) where
+  whole : Reduced (length ws) (at ws) (word_at t.rows) (marked set) (length ws) (pivot_at t.rows) (marked t.used)
+  whole = let q = subst (λ (k : ℕ). ReducedBy ws set k t) all r in q.reduced
 
-  pub uncovered_outcome : (e c : ℕ) → e < length ws → c < 64 → marked t.used c ≡ false → bit (at t.words e) c ≡ true
-      → OutcomeOf (words_of ws) (marked set) e Independent
-  uncovered_outcome e c l d z o = (
-    reduced_independent (length ws) (at ws) (at t.words) (marked set) (at t.pivots) (marked t.used) whole,
-    uncovered_independent (length ws) (at ws) (at t.words) (marked set) (at t.pivots) (marked t.used) whole e c l d z o,
+  word : word_at t.rows x ≡ word_at t.rows e
+  word = ap (word_at t.rows) same
+
+  pub uncovered_outcome : (c : ℕ) → FreeBit (word_at t.rows x) (marked t.used) (Some c) → OutcomeOf (words_of ws) (marked set) e (Ok None)
+  uncovered_outcome c (d, o, z, _) = (
+    reduced_independent (length ws) (at ws) (word_at t.rows) (marked set) (pivot_at t.rows) (marked t.used) whole,
+    uncovered_independent (length ws) (at ws) (word_at t.rows) (marked set) (pivot_at t.rows) (marked t.used) whole e c l d z
+        (ap (λ (w : ℕ). bit w c) (sym word) ∙ o),
   )
 
-  pub covered_outcome : (e : ℕ) → e < length ws → marked set e ≡ false → Covered (at t.words e) (marked t.used) → (C : List Bool)
-      → ((k : ℕ) → k < length ws → marked C k ≡ (eqb k e || (marked set k && bit (at t.words e) (at t.pivots k))))
-      → OutcomeOf (words_of ws) (marked set) e (Circuit C)
-  covered_outcome e l z h C g = (
-    reduced_independent (length ws) (at ws) (at t.words) (marked set) (at t.pivots) (marked t.used) whole,
-    covered_with_dependent (length ws) (at ws) (at t.words) (marked set) (at t.pivots) (marked t.used) whole e l z h,
-    covered_circuit (length ws) (at ws) (at t.words) (marked set) (at t.pivots) (marked t.used) whole e l z h (marked C) g,
-  )
+  pub covered_outcome : marked set e ≡ false → FreeBit (word_at t.rows x) (marked t.used) None → (C : List Bool)
+      → ((k : ℕ) → k < length ws → marked C k ≡ (eqb k x || (marked set k && bit (word_at t.rows x) (pivot_at t.rows k))))
+      → OutcomeOf (words_of ws) (marked set) e (Ok (Some C))
+  covered_outcome z h C g =
+      let covered : Covered (word_at t.rows e) (marked t.used) = subst (λ (w : ℕ). Covered w (marked t.used)) word h in (
+        reduced_independent (length ws) (at ws) (word_at t.rows) (marked set) (pivot_at t.rows) (marked t.used) whole,
+        covered_with_dependent (length ws) (at ws) (word_at t.rows) (marked set) (pivot_at t.rows) (marked t.used) whole e l z covered,
+        covered_circuit (length ws) (at ws) (word_at t.rows) (marked set) (pivot_at t.rows) (marked t.used) whole e l z covered (marked C)
+            (λ k b. g k b ∙ ap (λ (y : ℕ). eqb k y || (marked set k && bit (word_at t.rows y) (pivot_at t.rows k))) same),
+      )

@@ -5,20 +5,27 @@ ghost use Rattle.matroid.specs.Questions.{marked};
 ghost use Rattle.matroid.specs.Outcomes.{OutcomeOf};
 ghost use Rattle.kinds.specs.Kinds.{bit};
 ghost use Rattle.kinds.specs.Lists.{at, words_of};
-ghost use Rattle.words.specs.Reductions.{Cleared, ReducedBy};
+ghost use Rattle.words.specs.Reductions.{word_at, pivot_of, pivot_at, Cleared, FreeBit, ReducedBy, ReducedOr};
 
+use crate::Words;
 use element::{Element, MARKS};
-use matroid::Outcome;
+use fault::Fault;
 
-// The reduced words, the bit of each member that is taken in, and the bits that are used.
+// A reduced word, and the bit that its element is taken in by, if it is.
+#[derive(Clone, Copy)]
+pub(crate) struct Row {
+    word: u64,
+    pivot: Option<u8>,
+}
+
+// The rows of the elements, and the bits that are used.
 #[derive(Drop)]
 pub(crate) struct Table {
-    words: [u64; MARKS],
-    pivots: [u8; MARKS],
+    rows: [Row; MARKS],
     used: [bool; 64],
 }
 
-// Whether the word has a one at bit c.
+// Whether the word has a one at bit c. (Three functions ask for c < 64: a type for a bit would stand in each row and definition, no plainer.)
 fn bit_of(word: u64, c: u8) -> bool
     requires { c < 64 }
     ensures { result ≡ bit word c }
@@ -35,109 +42,108 @@ fn cleared(word: u64, c: u8) -> u64
     word ^ (1 << c)
 }
 
-// The lowest one of the word at a bit that is not used, or 64.
-fn free_bit(word: u64, used: &[bool; 64]) -> u8
-    ensures within { result ≤ 64 }
-    ensures one { result < 64 → bit word result ≡ true }
-    ensures free { result < 64 → marked used.now result ≡ false }
-    ensures before { (c : ℕ) → c < result → bit word c ≡ true → marked used.now c ≡ true }
+// The lowest one of the word at a bit that is not used.
+fn free_bit(word: u64, used: &[bool; 64]) -> Option<u8>
+    ensures { FreeBit word (marked used.now) result }
 {
-    for c in 0..64u8 {
-        if !used[c as usize] {
-            if bit_of(word, c) {
-                return c;
+    // The casts lose nothing, and `try_from` would need an error that cannot come.
+    for (c, taken) in used.iter().enumerate() {
+        if !*taken && bit_of(word, c as u8) {
+            return Some(c as u8);
+        }
+    }
+    None
+}
+
+// Adds the other ones of the pivot's word to each word that has a one at bit c.
+fn eliminate(rows: &mut [Row], c: u8, rest: u64)
+    requires { c < 64 }
+    ensures words { (j : ℕ) → j < length rows.old → word_at rows.new j ≡ (if bit (word_at rows.old j) c then bit_xor (word_at rows.old j) rest else word_at rows.old j) }
+    ensures pivots { (j : ℕ) → pivot_of rows.new j ≡ pivot_of rows.old j }
+{
+    for row in rows.iter_mut() {
+        row.word ^= if bit_of(row.word, c) { rest } else { 0 };
+    }
+}
+
+impl Words {
+    // The words, none of them taken in.
+    fn table(&self) -> Table
+        ensures same { (j : ℕ) → j < length self.now.words.list.items → word_at result.rows j ≡ at self.now.words.list.items j }
+        ensures none { (j : ℕ) → j < length self.now.words.list.items → pivot_of result.rows j ≡ None }
+        ensures free { (c : ℕ) → c < 64 → marked result.used c ≡ false }
+    {
+        let mut rows = [Row {
+            word: 0,
+            pivot: None,
+        }; MARKS];
+        for (i, word) in self.words.as_slice().iter().enumerate() {
+            rows[i].word = *word;
+        }
+        Table {
+            rows,
+            used: [false; 64],
+        }
+    }
+
+    // Takes element i in if it is in the set; refused if the set is dependent.
+    fn reduce_by(&self, table: &mut Table, set: &[bool; MARKS], i: usize) -> Result<(), Fault>
+        requires below { i < length self.now.words.list.items }
+        requires reduced { ReducedBy self.now.words.list.items set.now i table.old }
+        ensures { ReducedOr self.now.words.list.items set.now (i + 1) table.new result }
+    {
+        if !set[i] {
+            return Ok(());
+        }
+        let word = table.rows[i].word;
+        let Some(c) = free_bit(word, &table.used) else {
+            return Err(Fault::DependentSet);
+        };
+        let rest = cleared(word, c);
+        let n = usize::from(self.words.size());
+        eliminate(&mut table.rows[..n], c, rest);
+        table.rows[i].pivot = Some(c);
+        table.used[usize::from(c)] = true;
+        Ok(())
+    }
+
+    // Element e, and the members whose bits its word has.
+    fn circuit_of(&self, table: &Table, set: &[bool; MARKS], e: usize) -> [bool; MARKS]
+        requires below { e < length self.now.words.list.items }
+        requires reduced { ReducedBy self.now.words.list.items set.now (length self.now.words.list.items) table.now }
+        ensures { (k : ℕ) → k < length self.now.words.list.items → marked result k ≡ (k == e || (marked set.now k && bit (word_at table.now.rows e) (pivot_at table.now.rows k))) }
+    {
+        let word = table.rows[e].word;
+        let mut marks = [false; MARKS];
+        let n = usize::from(self.words.size());
+        for (k, row) in table.rows[..n].iter().enumerate() {
+            if let Some(pivot) = row.pivot {
+                marks[k] = bit_of(word, pivot);
             }
         }
+        marks[e] = true;
+        marks
     }
-    64
-}
 
-// Adds the other ones of the pivot's word to each of the first n words that has a one at bit c.
-fn eliminate(words: &mut [u64; MARKS], n: usize, c: u8, rest: u64)
-    requires { (c < 64) × (n ≤ all_marks) }
-    ensures { (j : ℕ) → j < n → at words.new j ≡ (if bit (at words.old j) c then bit_xor (at words.old j) rest else at words.old j) }
-{
-    for j in 0..n {
-        if bit_of(words[j], c) {
-            words[j] ^= rest;
+    // What the set makes with the element: nothing, or the circuit; refused if it is dependent.
+    pub(crate) fn outcome(
+        &self,
+        set: &[bool; MARKS],
+        element: Element,
+    ) -> Result<Option<[bool; MARKS]>, Fault>
+        requires below { element < length self.now.words.list.items }
+        requires outside { marked set.now element ≡ false }
+        ensures { OutcomeOf (words_of self.now.words.list.items) (marked set.now) element result }
+    {
+        let mut table = self.table();
+        // Elements are taken in by number: each changes the rows of all.
+        for i in 0..usize::from(self.words.size()) {
+            self.reduce_by(&mut table, set, i)?;
+        }
+        let e = usize::from(element);
+        match free_bit(table.rows[e].word, &table.used) {
+            Some(_) => Ok(None),
+            None => Ok(Some(self.circuit_of(&table, set, e))),
         }
     }
-}
-
-// The words, none of them taken in.
-fn table_of(words: &[u64]) -> Table
-    requires { length words.now < all_marks }
-    ensures same { (j : ℕ) → j < length words.now → at result.words j ≡ at words.now j }
-    ensures free { (c : ℕ) → c < 64 → marked result.used c ≡ false }
-{
-    let mut copy = [0; MARKS];
-    for i in 0..words.len() {
-        copy[i] = words[i];
-    }
-    Table {
-        words: copy,
-        pivots: [0; MARKS],
-        used: [false; 64],
-    }
-}
-
-// Takes element i in if it is in the set: false if the set is dependent.
-fn reduce_by(table: &mut Table, words: &[u64], set: &[bool; MARKS], i: usize) -> bool
-    requires size { length words.now < all_marks }
-    requires below { i < length words.now }
-    requires reduced { ReducedBy words.now set.now i table.old }
-    ensures reduced { result ≡ true → ReducedBy words.now set.now (i + 1) table.new }
-    ensures dependent { result ≡ false → (words_of words.now).independent (marked set.now) ≡ false }
-{
-    if !set[i] {
-        return true;
-    }
-    let word = table.words[i];
-    let c = free_bit(word, &table.used);
-    if c == 64 {
-        return false;
-    }
-    let rest = cleared(word, c);
-    eliminate(&mut table.words, words.len(), c, rest);
-    table.pivots[i] = c;
-    table.used[c as usize] = true;
-    true
-}
-
-// Element e, and the members whose bits its word has.
-fn circuit_of(table: &Table, n: usize, set: &[bool; MARKS], e: usize) -> [bool; MARKS]
-    requires size { n < all_marks }
-    requires below { e < n }
-    requires pivots { (k : ℕ) → k < n → marked set.now k ≡ true → at table.now.pivots k < 64 }
-    ensures { (k : ℕ) → k < n → marked result k ≡ (k == e || (marked set.now k && bit (at table.now.words e) (at table.now.pivots k))) }
-{
-    let word = table.words[e];
-    let mut marks = [false; MARKS];
-    for k in 0..n {
-        if set[k] {
-            marks[k] = bit_of(word, table.pivots[k]);
-        }
-    }
-    marks[e] = true;
-    marks
-}
-
-// Whether the set is dependent, or independent with the element too, or else the circuit.
-pub(crate) fn outcome_of(words: &[u64], set: &[bool; MARKS], element: Element) -> Outcome
-    requires size { length words.now < all_marks }
-    requires below { element < length words.now }
-    requires outside { marked set.now element ≡ false }
-    ensures { OutcomeOf (words_of words.now) (marked set.now) element result }
-{
-    let mut table = table_of(words);
-    for i in 0..words.len() {
-        if !reduce_by(&mut table, words, set, i) {
-            return Outcome::Dependent;
-        }
-    }
-    let e = element as usize;
-    if free_bit(table.words[e], &table.used) < 64 {
-        return Outcome::Independent;
-    }
-    Outcome::Circuit(circuit_of(&table, words.len(), set, e))
 }

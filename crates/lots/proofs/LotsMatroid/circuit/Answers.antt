@@ -1,21 +1,16 @@
-use Rattle.std.proofs.Common.{vec_items, sym, ap, ◌∙◌, ap₂, arith}
+use Rattle.std.proofs.Common.{sym, ap, ◌∙◌}
 use Rattle.matroid.specs.Questions.{Reply}
 use Rattle.matroid.proofs.Replies.{admits, concluded_questioned}
 use Rattle.kinds.specs.Lists.{lots_of}
 use Rattle.lots.proofs.LotsMatroid.circuit.Goals as goal
 
-pub outcome_of-outcome-requires : goal.outcome_of-outcome-requires
-outcome_of-outcome-requires c =
+pub outcome-requires-clause-outside : goal.outcome-requires-clause-outside
+outcome-requires-clause-outside c =
     let a = admits c.size-n.result c.args.set.now c.args.element c.args.marks.now c.in_ok-members.members (sym c.in_ok-members.ensures) in
-    let s = c.size-n.ensures in
-    let b = a.below in
-    let l = c.args.self.now.few in
-    record { size = omega arith; below = omega arith; outside = a.outside }
+    a.outside
 
-pub returns : goal.returns
-returns c =
-    let q =
-    concluded_questioned (lots_of (vec_items c.args.self.now.lots) (vec_items c.args.self.now.caps)) _ c.size-n.result c.args.set.now c.args.element
-    c.args.marks.now c.in_ok-members.members c.outcome_of-outcome.result c.size-n.ensures
-    (ap₂ lots_of c.deref.ensures.value c.deref-2.ensures.value) c.in_ok-members.ensures c.outcome_of-outcome.ensures in
-    record { answer = c.conclude.ensures.answer ∙ ap (λ (r : Reply). r.answer) q; marks = c.conclude.ensures.marks ∙ ap (λ (r : Reply). r.marks) q }
+pub returns-clause-marks : goal.returns-clause-marks
+returns-clause-marks c =
+    c.conclude.ensures.marks ∙ ap (λ (r : Reply). r.marks)
+    (concluded_questioned (lots_of c.args.self.now.lots.list.items c.args.self.now.caps.items) c.size-n.result c.args.set.now c.args.element
+    c.args.marks.now c.in_ok-members.members c.outcome.result c.size-n.ensures c.in_ok-members.ensures c.outcome.ensures)

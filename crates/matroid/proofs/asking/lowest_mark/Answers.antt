@@ -1,18 +1,23 @@
-use Rattle.std.proofs.Common.{◌≡◌, ◌<◌, ◌≤◌, ◌&&◌, leb, length, sym, ◌∙◌, arith}
-use Rattle.std.proofs.lemmas.Bool.{and_from, le-leb}
-use Rattle.element.specs.Marks.{all_marks}
+use Rattle.std.proofs.Common.{◌≡◌, ◌+◌, ◌<◌, Bool, true, ◌&&◌, length, ap, ◌∙◌, inl, inr, arith}
+use Rattle.std.proofs.lemmas.Bool.{lt-leb}
+use Rattle.std.proofs.lemmas.Grind.{common_steps}
 use Rattle.matroid.specs.Questions.{marked}
-use Rattle.matroid.proofs.Members.{lowest_none, lowest_is}
+use Rattle.matroid.proofs.Marks.{next_here, next_none}
 use Rattle.matroid.proofs.asking.lowest_mark.Goals as goal
 
-pub returns-then-marks-i : goal.returns-then-marks-i
-returns-then-marks-i c =
-    let l : c.loop-i.i < length c.args.marks.now = omega arith in
-    let m : c.args.from ≤ c.loop-i.i = omega arith in
-    sym (lowest_is (length c.args.marks.now) (λ k. leb c.args.from k && marked c.args.marks.now k) c.loop-i.i l
-    (and_from _ _ (le-leb c.args.from c.loop-i.i m) c.if-marks-i.true) c.loop-i.invariant)
+pub returns-in_err-marked-items : goal.returns-in_err-marked-items
+returns-in_err-marked-items c =
+    let beyond : length c.args.marks.now < c.args.from = elim c.in_err-marked-items.ensures.lookup.0 [ inl l ↦ l | inr l ↦ absurd (omega arith) ] in
+    c.from_residual.ensures
+    ∙ next_none c.args.from c.args.marks.now c.args.from (λ k l. ap (λ (b : Bool). b && marked c.args.marks.now k) (lt-leb c.args.from k l)) (omega arith)
+
+pub returns-then-marked : goal.returns-then-marked
+returns-then-marked c =
+    let (_, _, part, long) = c.in_ok-marked-items.ensures.lookup.0 in
+    let here : marked c.args.marks.now (c.args.from + c.loop-i.i) ≡ true = grind (arith, common_steps) in
+    next_here c.args.from c.args.marks.now (c.args.from + c.loop-i.i) c.loop-i.invariant (omega arith) (omega arith) here
 
 pub returns : goal.returns
 returns c =
-    let e : all_marks ≡ length c.args.marks.now = omega arith in
-    e ∙ sym (lowest_none (length c.args.marks.now) (λ k. leb c.args.from k && marked c.args.marks.now k) (λ k l. c.loop-i.invariant k (omega arith)))
+    let (_, _, _, long) = c.in_ok-marked-items.ensures.lookup.0 in
+    next_none c.args.from c.args.marks.now (c.args.from + c.loop-i.i) c.loop-i.invariant (omega arith)
