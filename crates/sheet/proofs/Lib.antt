@@ -1,4 +1,3 @@
 mod Scans
 mod Ways
-mod Checking
-mod Inscribing
+pub mod Inscribing

@@ -1,28 +1,39 @@
 -- What a loop over the bytes has found, in the words of the form. Assumes nothing.
-use Rattle.std.proofs.Common.{◌≡◌, ℕ, zero, suc, ◌+◌, ◌-◌, ◌*◌, ◌^◌, ◌<◌, ◌≤◌, Bool, true, false, cond, ◌&&◌, ◌||◌, eqb, leb, ◌⊎◌, List, [], ◌∷◌, length, get_or, take, drop, Some, None, Option, sym, refl, ap, ◌∙◌, inl, inr, arith}
-use Rattle.std.specs.Char.{is_ascii_digit}
+use Rattle.std.proofs.Common.{◌≡◌, ℕ, zero, suc, ◌+◌, ◌-◌, ◌*◌, ◌^◌, ◌<◌, ◌≤◌, Bool, true, false, cond, ◌&&◌, ◌||◌, eqb, List, [], ◌∷◌, length, get_or, take, drop, Some, None, Option, sym, refl, ap, ◌∙◌, inl, inr, arith}
+use Rattle.std.specs.Bool.{then_some}
+use Rattle.std.specs.List.{list_all, position, position_from}
+use Rattle.std.proofs.lemmas.List.Quantifiers.{position-Some}
+use Rattle.std.proofs.lemmas.Iterator.Adapters.{position_from-zero}
 use Rattle.std.specs.Str.{all_ascii_digits}
-use Rattle.std.proofs.lemmas.List.{at_drop_more, at_drop_all}
-use Rattle.std.proofs.lemmas.Bool.{cases_Bool, eqb-true, eqb-false, and_from, and_left, and_right, eq-eqb, ne_eqb, le-leb, lt-leb, lt-ltb, le-ltb}
+use Rattle.std.proofs.lemmas.List.{at_drop_more}
+use Rattle.std.proofs.lemmas.Bool.{cases_Bool, eqb-true, eqb-false, and_right, le-ltb}
 use Rattle.form.specs.Sheets.{each}
 use Rattle.form.specs.Reading.{cut, led, worth, plain, is_number, number, word, bit_then}
-use Rattle.form.proofs.Words.{plain_from, plain_not}
-use Rattle.sheet.specs.Code.{ones, is_bit, is_word}
+use Rattle.sheet.specs.Code.{ones, is_bit, is_word, valued}
 
 -- ## A field's end
 
-pub cut_found : (c : ℕ) (bs : List ℕ) (i : ℕ) → i < length bs → get_or bs i 0 ≡ c → ((k : ℕ) → k < i → get_or bs k 0 ≡ c → ⊥) → cut c bs ≡ Some (take i bs, drop (suc i) bs)
-cut_found c [] i h e f = absurd (omega arith)
-cut_found c (b ∷ bs) zero h e f = ap (λ t. cond t (Some ([], bs)) (led b (cut c bs))) (eq-eqb b c e)
-cut_found c (b ∷ bs) (suc i) h e f =
-    ap (λ t. cond t (Some ([], bs)) (led b (cut c bs))) (ne_eqb b c (f 0 (omega arith))) ∙
-    ap (led b) (cut_found c bs i (omega arith) e (λ k l. f (suc k) (omega arith)))
+first_cut : (c : ℕ) (bs : List ℕ) (i : ℕ) → i < length bs → eqb (get_or bs i 0) c ≡ true → ((k : ℕ) → k < i → eqb (get_or bs k 0) c ≡ false) → cut c bs ≡ Some (take i bs, drop (suc i) bs)
+first_cut c [] i h e f = absurd (omega arith)
+first_cut c (b ∷ bs) zero h e f = ap (λ t. cond t (Some ([], bs)) (led b (cut c bs))) e
+first_cut c (b ∷ bs) (suc i) h e f =
+    ap (λ t. cond t (Some ([], bs)) (led b (cut c bs))) (f 0 (omega arith)) ∙ ap (led b) (first_cut c bs i (omega arith) e (λ k l. f (suc k) (omega arith)))
 
-pub cut_none : (c : ℕ) (bs : List ℕ) → ((k : ℕ) → k < length bs → get_or bs k 0 ≡ c → ⊥) → cut c bs ≡ None
-cut_none c [] f = refl
-cut_none c (b ∷ bs) f =
-    ap (λ t. cond t (Some ([], bs)) (led b (cut c bs))) (ne_eqb b c (f 0 (omega arith))) ∙
-    ap (led b) (cut_none c bs (λ k l. f (suc k) (omega arith)))
+pub cut_found : (c : ℕ) (bs : List ℕ) (i : ℕ) → position (λ b. eqb b c) bs ≡ Some i → cut c bs ≡ Some (take i bs, drop (suc i) bs)
+cut_found c bs i e =
+    let p = position-Some (λ b. eqb b c) bs i 0 e in
+    first_cut c bs i p.0 p.1 p.2
+
+none_from : (c i : ℕ) (bs : List ℕ) → position_from (λ b. eqb b c) i bs ≡ None → cut c bs ≡ None
+none_from c i [] h = refl
+none_from c i (b ∷ bs) h = by (eqb b c) h (none_from c (i + 1) bs)
+  where
+    by : (t : Bool) → cond t (Some i) (position_from (λ b. eqb b c) (i + 1) bs) ≡ None → (position_from (λ b. eqb b c) (i + 1) bs ≡ None → cut c bs ≡ None) → cond t (Some ([], bs)) (led b (cut c bs)) ≡ None
+    by true h f = absurd cc
+    by false h f = ap (led b) (f h)
+
+pub cut_none : (c : ℕ) (bs : List ℕ) → position (λ b. eqb b c) bs ≡ None → cut c bs ≡ None
+cut_none c bs e = none_from c 0 bs (sym (position_from-zero (λ b. eqb b c) bs) ∙ e)
 
 -- ## A number's digits
 
@@ -30,14 +41,8 @@ worth_ge : (n : ℕ) (w : List ℕ) → n ≤ worth n w
 worth_ge n [] = omega arith
 worth_ge n (c ∷ cs) = omega (arith, worth_ge (n * 10 + (c - 48)) cs)
 
-digit : (b : ℕ) → 48 ≤ b → b ≤ 57 → is_ascii_digit b ≡ true
-digit b l h = and_from (leb 48 b) (leb b 57) (le-leb 48 b l) (le-leb b 57 h)
-
 number_not : (w : List ℕ) → is_number w ≡ false → None ≡ number w
 number_not w e = sym (ap (λ t. cond t (Some (worth 0 w)) None) e)
-
-not_plain : (w : List ℕ) → plain w ≡ false → None ≡ number w
-not_plain w e = number_not w (and_right (all_ascii_digits w) _ (and_left (plain w) _ e))
 
 -- the loop has read i digits, which write v; the first of several is no zero
 pub record Read (w : List ℕ) (i v : ℕ) : Type 0 where
@@ -46,50 +51,6 @@ pub record Read (w : List ℕ) (i v : ℕ) : Type 0 where
   pub first : i ≡ 1 → v + 48 ≡ get_or w 0 0
   pub more : 1 < i → (0 < v) × (get_or w 0 0 ≡ 48 → ⊥)
 
-pub read_none : (w : List ℕ) → Read w 0 0
-read_none w = record { digits = refl; value = refl; first = λ e. absurd (omega arith); more = λ l. absurd (omega arith) }
-
-pub read_more : (w : List ℕ) (i v n : ℕ) → Read w i v → i < length w → 48 ≤ get_or w i 0 → get_or w i 0 ≤ 57 → (0 < i → 0 < v) → (i ≡ 0 → v ≡ 0) → n ≡ v * 10 + (get_or w i 0 - 48) → Read w (i + 1) n
-read_more w i v n r l low high lead start e = record {
-  digits =
-      sym (ap (λ t. t && all_ascii_digits (drop (i + 1) w)) (digit (get_or w i 0) low high)) ∙ (sym (at_drop_more all_ascii_digits w i 0 l) ∙ r.digits);
-  value = ap (λ n. worth n (drop (i + 1) w)) e ∙ (sym (at_drop_more (worth v) w i 0 l) ∙ r.value);
-  first = λ o.
-      let z : i ≡ 0 = omega arith in
-      let s : get_or w i 0 ≡ get_or w 0 0 = ap (λ k. get_or w k 0) z in
-      omega (arith, start z, s);
-  more = λ m.
-      let p : 0 < v = lead (omega arith) in
-      (omega arith, later i r (omega arith) p);
-}
-  where
-    later : (i : ℕ) → Read w i v → 0 < i → 0 < v → get_or w 0 0 ≡ 48 → ⊥
-    later zero r m p z = omega arith
-    later (suc zero) r m p z = omega (arith, r.first refl)
-    later (suc (suc i)) r m p z = (r.more (omega arith)).1 z
-
--- a zero before the other digits
-pub not_lead : (w : List ℕ) (i v : ℕ) → Read w i v → i < length w → 0 < i → v ≡ 0 → None ≡ number w
-not_lead w zero v r l m z = absurd (omega arith)
-not_lead w (suc zero) v r l m z = not_plain w (plain_not w (omega (arith, r.first refl)) (omega arith))
-not_lead w (suc (suc i)) v r l m z = absurd (omega (arith, (r.more (omega arith)).0))
-
-plain_end : (w : List ℕ) (i v : ℕ) → Read w i v → length w ≤ i → 0 < length w → (get_or w 0 0 ≡ 48 → length w ≡ 1)
-plain_end w i v r l m z = elim (le_or (length w)) [ inl h ↦ omega arith | inr h ↦ absurd ((r.more (omega arith)).1 z) ]
-  where
-    le_or : (k : ℕ) → (k ≤ 1) ⊎ (1 < k)
-    le_or zero = inl (omega arith)
-    le_or (suc zero) = inl (omega arith)
-    le_or (suc (suc k)) = inr (omega arith)
-
-pub not_low : (w : List ℕ) (i v : ℕ) → Read w i v → i < length w → get_or w i 0 < 48 → None ≡ number w
-not_low w i v r l h =
-    number_not w (and_left (all_ascii_digits w) _ (sym r.digits ∙ (at_drop_more all_ascii_digits w i 0 l ∙ and_left (is_ascii_digit (get_or w i 0)) _ (and_left (leb 48 (get_or w i 0)) _ (lt-leb 48 (get_or w i 0) h)))))
-
-pub not_high : (w : List ℕ) (i v : ℕ) → Read w i v → i < length w → 57 < get_or w i 0 → None ≡ number w
-not_high w i v r l h =
-    number_not w (and_left (all_ascii_digits w) _ (sym r.digits ∙ (at_drop_more all_ascii_digits w i 0 l ∙ and_left (is_ascii_digit (get_or w i 0)) _ (and_right (leb 48 (get_or w i 0)) _ (lt-leb (get_or w i 0) 57 h)))))
-
 too_big : (w : List ℕ) → 2 ^ 32 ≤ worth 0 w → None ≡ number w
 too_big w h = number_not w (and_right (all_ascii_digits w) _ (and_right (plain w) _ (le-ltb (worth 0 w) (2 ^ 32) h)))
 
@@ -97,29 +58,16 @@ pub not_small : (w : List ℕ) (i v : ℕ) → Read w i v → i < length w → 4
 not_small w i v r l h =
     too_big w (omega (arith, worth_ge (v * 10 + (get_or w i 0 - 48)) (drop (i + 1) w), sym (at_drop_more (worth v) w i 0 l) ∙ r.value))
 
-end_value : (w : List ℕ) (i v : ℕ) → Read w i v → length w ≤ i → v ≡ worth 0 w
-end_value w i v r l = sym (at_drop_all (worth v) w i l) ∙ r.value
-
-pub end_big : (w : List ℕ) (i v : ℕ) → Read w i v → length w ≤ i → 2 ^ 32 ≤ v → None ≡ number w
-end_big w i v r l h = too_big w (omega (arith, end_value w i v r l))
-
-pub end_some : (w : List ℕ) (i v : ℕ) → Read w i v → length w ≤ i → 0 < length w → v < 2 ^ 32 → Some v ≡ number w
-end_some w i v r l some h =
-    let e = end_value w i v r l in
-    let t : is_number w ≡ true =
-    and_from (all_ascii_digits w) _ (sym r.digits ∙ at_drop_all all_ascii_digits w i l) (and_from (plain w) _ (plain_from w some (plain_end w i v r l some)) (lt-ltb (worth 0 w) (2 ^ 32) (omega (arith, e)))) in
-    ap (λ k. Some k) e ∙ sym (ap (λ t. cond t (Some (worth 0 w)) None) t)
-
 -- ## A test of each byte
 
-pub each_more : (test : ℕ → Bool) (w : List ℕ) (i : ℕ) → each test (drop i w) ≡ each test w → i < length w → test (get_or w i 0) ≡ true → each test (drop (i + 1) w) ≡ each test w
-each_more test w i r l h = sym (ap (λ t. t && each test (drop (i + 1) w)) h) ∙ (sym (at_drop_more (each test) w i 0 l) ∙ r)
+pub each_is : (test : ℕ → Bool) (w : List ℕ) → list_all test w ≡ each test w
+each_is test [] = refl
+each_is test (b ∷ bs) = ap (λ t. test b && t) (each_is test bs)
 
-pub each_not : (test : ℕ → Bool) (w : List ℕ) (i : ℕ) → each test (drop i w) ≡ each test w → i < length w → test (get_or w i 0) ≡ false → each test w ≡ false
-each_not test w i r l h = sym r ∙ (at_drop_more (each test) w i 0 l ∙ and_left (test (get_or w i 0)) _ h)
-
-pub each_all : (test : ℕ → Bool) (w : List ℕ) (i : ℕ) → each test (drop i w) ≡ each test w → length w ≤ i → each test w ≡ true
-each_all test w i r l = sym r ∙ at_drop_all (each test) w i l
+-- a value that stands where the test passes
+pub valued_then : {X A : Type 0} (value : X → A) (b : Bool) (x : X) → valued value (then_some b x) ≡ cond b (Some (value x)) None
+valued_then value true x = refl
+valued_then value false x = refl
 
 -- ## A word's letters
 

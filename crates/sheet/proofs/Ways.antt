@@ -1,15 +1,14 @@
 -- The ways through the sections of a sheet. Assumes nothing.
-use Rattle.std.proofs.Common.{◌≡◌, ℕ, zero, suc, ◌-◌, ◌<◌, ◌≤◌, List, [], ◌∷◌, ◌++◌, map, length, get_or, Some, None, Err, Option, Result, sym, refl, ap, ◌∙◌, subst, arith, MatchOption}
+use Rattle.std.proofs.Common.{◌≡◌, ℕ, zero, suc, ◌-◌, ◌<◌, ◌≤◌, List, [], ◌∷◌, ◌++◌, map, length, get_or, Some, None, Option, sym, refl, ap, ◌∙◌, subst, arith, MatchOption}
 use Rattle.std.specs.Borrow.{Bor}
-use Rattle.std.specs.List.{HoldsAt}
+use Rattle.std.specs.List.{HoldsAt, last_or}
 use Rattle.std.specs.Slice.{IsGetResult}
-use Rattle.std.proofs.lemmas.List.{append_assoc, append-nil}
+use Rattle.std.proofs.lemmas.List.{append_assoc}
 use Rattle.form.specs.Sheets.{Element, Recorded, Body, most_lines}
 use Rattle.form.specs.Reading.{Tail, counted, element_line, recorded_line, body, Got, got, stop, Step, and_then, done, repeated}
 use Rattle.fault.specs.declared.Fault.{Fault}
 use Rattle.fault.specs.Refusals.{refusal}
-use Rattle.sheet.specs.declared.reader.Reader.{Reader}
-use Rattle.sheet.specs.Readers.{Reads, Stops, before_of, left}
+use Rattle.sheet.specs.Readers.{Stops, before_of}
 
 -- ## The lines of a section, one after another
 
@@ -17,15 +16,9 @@ abbrev pub after : {A : Type 0} → List A → Got (List A) → Got (List A)
 after xs (got ys r m) = got (xs ++ ys) r m
 after xs (stop c m) = stop c m
 
-abbrev pub last_of : {A : Type 0} → List A → Option A
-last_of [] = None
-last_of (x ∷ []) = Some x
-last_of (x ∷ (y ∷ ys)) = last_of (y ∷ ys)
-
-pub last_push : {A : Type 0} (xs : List A) (a : A) → last_of (xs ++ (a ∷ [])) ≡ Some a
-last_push [] a = refl
-last_push (x ∷ []) a = refl
-last_push (x ∷ (y ∷ ys)) a = last_push (y ∷ ys) a
+last_push : {A : Type 0} (o : Option A) (xs : List A) (a : A) → last_or o (xs ++ (a ∷ [])) ≡ Some a
+last_push o [] a = refl
+last_push o (x ∷ xs) a = last_push (Some x) xs a
 
 after_more : {A : Type 0} (xs : List A) (a : A) (g : Got (List A)) → after xs (and_then g (λ ys. done (a ∷ ys))) ≡ after (xs ++ (a ∷ [])) g
 after_more xs a (got ys r m) = ap (λ l. got l r m) (sym (append_assoc xs (a ∷ []) ys))
@@ -33,65 +26,47 @@ after_more xs a (stop c m) = refl
 
 -- the whole is what was read and what is left to read
 pub record Sofar {A : Type 0} (item : Option A → Step A) (g : Got (List A)) (xs : List A) (k : ℕ) (bs : List ℕ) (n : ℕ) : Type 0 where
-  pub is : g ≡ after xs (repeated item (last_of xs) k bs n)
+  pub is : g ≡ after xs (repeated item (last_or None xs) k bs n)
 
-pub sofar_none : {A : Type 0} (item : Option A → Step A) (k : ℕ) (bs : List ℕ) (n : ℕ) → Sofar item (repeated item None k bs n) [] k bs n
-sofar_none item k bs n = record { is = same (repeated item None k bs n) }
-  where
-    same : {A : Type 0} (g : Got (List A)) → g ≡ after [] g
-    same (got ys r m) = refl
-    same (stop c m) = refl
-
-pub sofar_more : {A : Type 0} (item : Option A → Step A) (g : Got (List A)) (xs : List A) (k : ℕ) (bs : List ℕ) (n : ℕ) (a : A) (r : List ℕ) (m : ℕ) → Sofar item g xs (suc k) bs n → item (last_of xs) bs n ≡ got a r m → Sofar item g (xs ++ (a ∷ [])) k r m
-sofar_more item g xs k bs n a r m s e = record {
+sofar_more : {A : Type 0} {item : Option A → Step A} {g : Got (List A)} {xs : List A} {k : ℕ} {bs : List ℕ} {n : ℕ} {a : A} {r : List ℕ} {m : ℕ} → Sofar item g xs (suc k) bs n → item (last_or None xs) bs n ≡ got a r m → Sofar item g (xs ++ (a ∷ [])) k r m
+sofar_more {item} {g} {xs} {k} {bs} {n} {a} {r} {m} s e = record {
   is =
       s.is ∙
       (ap (λ x. after xs (and_then x (λ a. λ bs n. and_then (repeated item (Some a) k bs n) (λ ys. done (a ∷ ys))))) e ∙
-      (after_more xs a (repeated item (Some a) k r m) ∙
-      ap (λ o. after (xs ++ (a ∷ [])) (repeated item o k r m)) (sym (last_push xs a))));
+      (after_more xs a (repeated item (Some a) k r m) ∙ ap (λ o. after (xs ++ (a ∷ [])) (repeated item o k r m)) (sym (last_push None xs a))));
 }
 
-pub sofar_stopped : {A : Type 0} (item : Option A → Step A) (g : Got (List A)) (xs : List A) (k : ℕ) (bs : List ℕ) (n c m : ℕ) → Sofar item g xs (suc k) bs n → item (last_of xs) bs n ≡ stop c m → g ≡ stop c m
-sofar_stopped item g xs k bs n c m s e =
-    s.is ∙ ap (λ x. after xs (and_then x (λ a. λ bs n. and_then (repeated item (Some a) k bs n) (λ ys. done (a ∷ ys))))) e
-
-pub sofar_all : {A : Type 0} (item : Option A → Step A) (g : Got (List A)) (xs : List A) (bs : List ℕ) (n : ℕ) → Sofar item g xs 0 bs n → g ≡ got xs bs n
-sofar_all item g xs bs n s = s.is ∙ ap (λ l. got l bs n) (append-nil xs)
-
--- ## The same, as a loop's turn has it
-
-pub sofar_start : {A : Type 0} (item : Option A → Step A) (k j : ℕ) (bs : List ℕ) (n : ℕ) (xs : List A) → xs ≡ [] → j ≡ k → Sofar item (repeated item None k bs n) xs j bs n
-sofar_start {A} item k j bs n xs e h =
-    subst (λ (l : List A). Sofar item (repeated item None k bs n) l j bs n) (sym e)
-    (subst (λ (j : ℕ). Sofar item (repeated item None k bs n) [] j bs n) (sym h) (sofar_none item k bs n))
-
-pub sofar_turn : {A : Type 0} (item : Option A → Step A) (g : Got (List A)) (xs ys : List A) (k j : ℕ) (bs : List ℕ) (n : ℕ) (a : A) (r : List ℕ) (m : ℕ) (before : Option A) → Sofar item g xs k bs n → before ≡ last_of xs → item before bs n ≡ got a r m → k ≡ suc j → ys ≡ xs ++ (a ∷ []) → Sofar item g ys j r m
-sofar_turn {A} item g xs ys k j bs n a r m before s b e h p =
+-- one more line, as a loop's turn has it
+pub sofar_turn : {A : Type 0} {item : Option A → Step A} {g : Got (List A)} {xs ys : List A} {k j : ℕ} {bs : List ℕ} {n : ℕ} {a : A} {r : List ℕ} {m : ℕ} {before : Option A} → Sofar item g xs k bs n → before ≡ last_or None xs → item before bs n ≡ got a r m → k ≡ suc j → ys ≡ xs ++ (a ∷ []) → Sofar item g ys j r m
+sofar_turn {A} {item} {g} {xs} {ys} {k} {j} {bs} {n} {a} {r} {m} s b e h p =
     subst (λ (l : List A). Sofar item g l j r m) (sym p)
-    (sofar_more item g xs j bs n a r m (subst (λ (k : ℕ). Sofar item g xs k bs n) h s) (ap (λ o. item o bs n) (sym b) ∙ e))
+    (sofar_more (subst (λ (k : ℕ). Sofar item g xs k bs n) h s) (ap (λ o. item o bs n) (sym b) ∙ e))
 
-pub sofar_halt : {A : Type 0} (item : Option A → Step A) (g : Got (List A)) (xs : List A) (k : ℕ) (bs : List ℕ) (n c m : ℕ) (before : Option A) → Sofar item g xs k bs n → before ≡ last_of xs → item before bs n ≡ stop c m → 0 < k → g ≡ stop c m
-sofar_halt item g xs zero bs n c m before s b e h = absurd (omega arith)
-sofar_halt item g xs (suc k) bs n c m before s b e h = sofar_stopped item g xs k bs n c m s (ap (λ o. item o bs n) (sym b) ∙ e)
-
-pub sofar_end : {A : Type 0} (item : Option A → Step A) (g : Got (List A)) (xs : List A) (k : ℕ) (bs : List ℕ) (n : ℕ) → Sofar item g xs k bs n → k ≡ 0 → g ≡ got xs bs n
-sofar_end item g xs k bs n s h = sofar_all item g xs bs n (subst (λ (k : ℕ). Sofar item g xs k bs n) h s)
+-- a line that is refused
+pub sofar_halt : {A : Type 0} {item : Option A → Step A} {g : Got (List A)} {xs : List A} {k : ℕ} {bs : List ℕ} {n c m : ℕ} {before : Option A} → Sofar item g xs k bs n → before ≡ last_or None xs → item before bs n ≡ stop c m → 0 < k → g ≡ stop c m
+sofar_halt {k = zero} s b e h = absurd (omega arith)
+sofar_halt {item = item} {xs = xs} {k = suc k} {bs = bs} {n = n} s b e h =
+    s.is ∙ ap (λ x. after xs (and_then x (λ a. λ bs n. and_then (repeated item (Some a) k bs n) (λ ys. done (a ∷ ys))))) (ap (λ o. item o bs n) (sym b) ∙ e)
 
 -- what `last` lends is the last
-at_last : {X A : Type 0} (value : X → A) (x y : X) (ys : List X) → x ≡ get_or (y ∷ ys) (length ys) x → Some (value x) ≡ last_of (map value (y ∷ ys))
+at_last : {X A : Type 0} (value : X → A) (x y : X) (ys : List X) → x ≡ get_or (y ∷ ys) (length ys) x → Some (value x) ≡ last_or None (map value (y ∷ ys))
 at_last value x y [] e = ap (λ v. Some (value v)) e
 at_last value x y (z ∷ zs) e = at_last value x z zs e
 
-pub last_is : {X A : Type 0} (value : X → A) (xs ys : List X) (r : Option (Bor X)) → ys ≡ xs → IsGetResult ys 0 (length ys - 1) r → before_of value r ≡ last_of (map value xs)
-last_is {X} value xs ys r e i = subst (λ (l : List X). before_of value r ≡ last_of (map value l)) e (go ys r i.3)
+pub last_is : {X A : Type 0} (value : X → A) (xs ys : List X) (r : Option (Bor X)) → ys ≡ xs → IsGetResult ys 0 (length ys - 1) r → before_of value r ≡ last_or None (map value xs)
+last_is {X} value xs ys r e i = subst (λ (l : List X). before_of value r ≡ last_or None (map value l)) e (go ys r i.3)
   where
-    go : (ys : List X) (r : Option (Bor X)) → MatchOption r (length ys ≤ 0) (λ x. (0 < length ys) × HoldsAt (λ y. x.now ≡ y) ys (length ys - 1)) → before_of value r ≡ last_of (map value ys)
+    go : (ys : List X) (r : Option (Bor X)) → MatchOption r (length ys ≤ 0) (λ x. (0 < length ys) × HoldsAt (λ y. x.now ≡ y) ys (length ys - 1)) → before_of value r ≡ last_or None (map value ys)
     go [] None h = refl
     go [] (Some x) h = absurd (omega arith)
     go (y ∷ ys) None h = absurd (omega arith)
     go (y ∷ ys) (Some x) h =
         let k : suc (length ys) - 1 ≡ length ys = omega arith in
         at_last value x.now y ys (h.1 x.now ∙ ap (λ i. get_or (y ∷ ys) i x.now) k)
+
+-- a refusal that is passed on
+pub stops_map : {A B : Type 0} (g : Got A) (h : Got B) (f : Fault) → ((c m : ℕ) → g ≡ stop c m → h ≡ stop c m) → Stops g f → Stops h f
+stops_map g h f to s = record { with = to (refusal f).number (refusal f).place s.with; flat = s.flat; fed = s.fed }
 
 -- ## The three sections
 
@@ -101,17 +76,17 @@ after_elements allowance ps es = λ bs n. and_then (counted 0 most_lines (record
 abbrev after_places : {P T : Type 0} → Tail T → ℕ → List P → Step (Body P T)
 after_places tail allowance ps = λ bs n. and_then (counted 0 most_lines (λ _. element_line tail (length ps)) bs n) (after_elements allowance ps)
 
-module _ {P T : Type 0} (least most : ℕ) (place : Option P → Step P) (tail : Tail T) (allowance : ℕ) (bs : List ℕ) (n : ℕ) (ps : List P) (r₁ : List ℕ) (m₁ k₁ : ℕ) (e₁ : counted least most place bs n ≡ got ps r₁ m₁) (h₁ : k₁ ≡ length ps) where
+module _ {P T : Type 0} (least most : ℕ) (place : Option P → Step P) (tail : Tail T) (allowance : ℕ) (bs : List ℕ) (n : ℕ) {ps : List P} {r₁ : List ℕ} {m₁ k₁ : ℕ} (e₁ : counted least most place bs n ≡ got ps r₁ m₁) (h₁ : k₁ ≡ length ps) where
   body_first : (o : Got (List (Element T))) → counted 0 most_lines (λ _. element_line tail k₁) r₁ m₁ ≡ o → body least most place tail allowance bs n ≡ and_then o (after_elements allowance ps)
   body_first o e₂ =
       ap (λ x. and_then x (after_places tail allowance)) e₁ ∙
       (ap (λ k. and_then (counted 0 most_lines (λ _. element_line tail k) r₁ m₁) (after_elements allowance ps)) (sym h₁) ∙
       ap (λ x. and_then x (after_elements allowance ps)) e₂)
 
-  pub body_elements : (c m : ℕ) → counted 0 most_lines (λ _. element_line tail k₁) r₁ m₁ ≡ stop c m → body least most place tail allowance bs n ≡ stop c m
-  body_elements c m e₂ = body_first (stop c m) e₂
+  pub body_elements : (f : Fault) → Stops (counted 0 most_lines (λ _. element_line tail k₁) r₁ m₁) f → Stops (body least most place tail allowance bs n) f
+  body_elements f = stops_map _ _ f (λ c m. body_first (stop c m))
 
-  module _ (es : List (Element T)) (r₂ : List ℕ) (m₂ k₂ : ℕ) (e₂ : counted 0 most_lines (λ _. element_line tail k₁) r₁ m₁ ≡ got es r₂ m₂) (h₂ : k₂ ≡ length es) where
+  module _ {es : List (Element T)} {r₂ : List ℕ} {m₂ k₂ : ℕ} (e₂ : counted 0 most_lines (λ _. element_line tail k₁) r₁ m₁ ≡ got es r₂ m₂) (h₂ : k₂ ≡ length es) where
     body_second : (o : Got (List Recorded)) → counted 0 most_lines (recorded_line k₂) r₂ m₂ ≡ o → body least most place tail allowance bs n ≡ and_then o (λ rs. done (record { allowance = allowance; places = ps; elements = es; recorded = rs }))
     body_second o e₃ =
         body_first (got es r₂ m₂) e₂ ∙
@@ -121,16 +96,8 @@ module _ {P T : Type 0} (least most : ℕ) (place : Option P → Step P) (tail :
         made : List Recorded → Body P T
         made rs = record { allowance = allowance; places = ps; elements = es; recorded = rs }
 
-    pub body_records : (c m : ℕ) → counted 0 most_lines (recorded_line k₂) r₂ m₂ ≡ stop c m → body least most place tail allowance bs n ≡ stop c m
-    body_records c m e₃ = body_second (stop c m) e₃
+    pub body_records : (f : Fault) → Stops (counted 0 most_lines (recorded_line k₂) r₂ m₂) f → Stops (body least most place tail allowance bs n) f
+    body_records f = stops_map _ _ f (λ c m. body_second (stop c m))
 
-    pub body_all : (rs : List Recorded) (r₃ : List ℕ) (m₃ : ℕ) → counted 0 most_lines (recorded_line k₂) r₂ m₂ ≡ got rs r₃ m₃ → body least most place tail allowance bs n ≡ got (record { allowance = allowance; places = ps; elements = es; recorded = rs }) r₃ m₃
-    body_all rs r₃ m₃ e₃ = body_second (got rs r₃ m₃) e₃
-
--- ## A refusal that is passed on
-
-pub stops_map : {A B : Type 0} (g : Got A) (h : Got B) (f : Fault) → ((c m : ℕ) → g ≡ stop c m → h ≡ stop c m) → Stops g f → Stops h f
-stops_map g h f to s = record { with = to (refusal f).number (refusal f).place s.with; flat = s.flat; fed = s.fed }
-
-pub reads_err : {X A : Type 0} (value : X → A) (s : Step A) (old new : Reader) (r : Result X Fault) (x f : Fault) → r ≡ Err x → x ≡ f → Stops (s (left old) old.line) f → Reads value s old r new
-reads_err {X} value s old new r x f p q h = subst (λ (r : Result X Fault). Reads value s old r new) (sym (p ∙ ap (λ e. Err e) q)) h
+    pub body_all : {rs : List Recorded} {r₃ : List ℕ} {m₃ : ℕ} → counted 0 most_lines (recorded_line k₂) r₂ m₂ ≡ got rs r₃ m₃ → body least most place tail allowance bs n ≡ got (record { allowance = allowance; places = ps; elements = es; recorded = rs }) r₃ m₃
+    body_all e₃ = body_second _ e₃

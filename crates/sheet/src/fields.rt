@@ -1,13 +1,12 @@
 // What the bytes of one field hold.
 ghost use Rattle.std.specs.Prelude.{◌≡◌, ℕ, Bool, List, Option as Maybe};
-ghost use Rattle.std.specs.Str.{bytes_eq};
 ghost use Rattle.form.specs.declared.Kind.{Kind as AKind};
 ghost use Rattle.form.specs.declared.Letter.{Letter as ALetter};
 ghost use Rattle.form.specs.Sheets.{is_name, name_byte};
 ghost use Rattle.form.specs.Reading.{number as a_number, price as a_price, name as a_name, kind as a_kind, letter as a_letter, word as a_word};
 ghost use Rattle.sheet.specs.Code.{valued, bytes, word_of, is_word, is_bit};
 
-use element::{Place, Price};
+use element::Place;
 use form::{Kind, Letter};
 
 // How a field is read.
@@ -24,7 +23,7 @@ pub trait Field<'a> {
         ensures { valued value result ≡ reads self.now field.now };
 }
 
-// A count, a cap, an allowance, or the number of a place, a lot or an element.
+// A count, a cap, an allowance, a price, or the number of a place, a lot or an element.
 #[derive(Clone, Copy)]
 pub struct Numeral;
 
@@ -38,24 +37,6 @@ impl<'a> Field<'a> for Numeral {
     ghost reads = { λ _. a_number };
 
     fn of(&self, field: &'a [u8]) -> Option<u32> {
-        number_in(field)
-    }
-}
-
-// A price, or an end of a range.
-#[derive(Clone, Copy)]
-pub struct Amount;
-
-impl<'a> Field<'a> for Amount {
-    type Value = Price;
-
-    ghost model = { ℕ };
-
-    ghost value = { λ p. p };
-
-    ghost reads = { λ _. a_price };
-
-    fn of(&self, field: &'a [u8]) -> Option<Price> {
         number_in(field)
     }
 }
@@ -74,7 +55,7 @@ impl<'a> Field<'a> for Title {
     ghost reads = { λ _. a_name };
 
     fn of(&self, field: &'a [u8]) -> Option<&'a [u8]> {
-        if is_name(field) { Some(field) } else { None }
+        is_name(field).then_some(field)
     }
 }
 
@@ -92,7 +73,12 @@ impl<'a> Field<'a> for KindWord {
     ghost reads = { λ _. a_kind };
 
     fn of(&self, field: &'a [u8]) -> Option<Kind> {
-        kind_in(field)
+        match field {
+            b"routes" => Some(Kind::Routes),
+            b"lots" => Some(Kind::Lots),
+            b"words" => Some(Kind::Words),
+            _ => None,
+        }
     }
 }
 
@@ -110,7 +96,11 @@ impl<'a> Field<'a> for EntryLetter {
     ghost reads = { λ _. a_letter };
 
     fn of(&self, field: &'a [u8]) -> Option<Letter> {
-        letter_in(field)
+        match field {
+            [b'k'] => Some(Letter::K),
+            [b'r'] => Some(Letter::R),
+            _ => None,
+        }
     }
 }
 
@@ -130,93 +120,34 @@ impl<'a> Field<'a> for Bits {
     ghost reads = { λ f. a_word f.lamps };
 
     fn of(&self, field: &'a [u8]) -> Option<&'a [u8]> {
-        if is_word(field, self.lamps) {
-            Some(field)
-        } else {
-            None
-        }
+        is_word(field, self.lamps).then_some(field)
     }
 }
 
 fn is_name_byte(b: u8) -> bool
     ensures { result ≡ name_byte b }
 {
-    match b {
-        b'a'..=b'z' | b'0'..=b'9' => true,
-        _ => false,
-    }
+    matches!(b, b'a'..=b'z' | b'0'..=b'9')
 }
 
 // 1 to 12 letters a to z and digits.
 fn is_name(field: &[u8]) -> bool
     ensures { result ≡ is_name field.now }
 {
-    if field.is_empty() || field.len() > 12 {
-        return false;
-    }
-    for b in field {
-        if !is_name_byte(*b) {
-            return false;
-        }
-    }
-    true
+    !field.is_empty() && field.len() <= 12 && field.iter().all(|b| is_name_byte(*b))
 }
 
 fn is_bit(b: u8) -> bool
     ensures { result ≡ is_bit b }
 {
-    match b {
-        b'0' | b'1' => true,
-        _ => false,
-    }
+    matches!(b, b'0' | b'1')
 }
 
 // A letter 0 or 1 for each lamp, and nothing else.
 fn is_word(field: &[u8], lamps: Place) -> bool
     ensures { result ≡ is_word lamps field.now }
 {
-    if field.len() != lamps as usize {
-        return false;
-    }
-    for b in field {
-        if !is_bit(*b) {
-            return false;
-        }
-    }
-    true
-}
-
-fn is_text(field: &[u8], text: &[u8]) -> bool
-    ensures { result ≡ bytes_eq field.now text.now }
-{
-    field == text
-}
-
-fn kind_in(field: &[u8]) -> Option<Kind>
-    ensures { result ≡ a_kind field.now }
-{
-    if is_text(field, b"routes") {
-        Some(Kind::Routes)
-    } else if is_text(field, b"lots") {
-        Some(Kind::Lots)
-    } else if is_text(field, b"words") {
-        Some(Kind::Words)
-    } else {
-        None
-    }
-}
-
-fn letter_in(field: &[u8]) -> Option<Letter>
-    ensures { result ≡ a_letter field.now }
-{
-    let [only] = field else {
-        return None;
-    };
-    match *only {
-        b'k' => Some(Letter::K),
-        b'r' => Some(Letter::R),
-        _ => None,
-    }
+    field.len() == usize::from(lamps) && field.iter().all(|b| is_bit(*b))
 }
 
 // The number that digits write: no leading zero, at most 4294967295.
@@ -227,6 +158,7 @@ fn number_in(field: &[u8]) -> Option<u32>
         return None;
     }
     let mut value: u64 = 0;
+    // A rule of this project: digits are told by byte ranges with guards, so that each way to refuse a byte stands in an arm of its own.
     for (i, b) in field.iter().enumerate() {
         value = match *b {
             b'0'..=b'9' if i > 0 && value == 0 => return None,
@@ -235,9 +167,5 @@ fn number_in(field: &[u8]) -> Option<u32>
             _ => return None,
         };
     }
-    if value <= 4_294_967_295 {
-        Some(value as u32)
-    } else {
-        None
-    }
+    u32::try_from(value).ok()
 }

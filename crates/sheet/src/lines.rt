@@ -1,5 +1,5 @@
 // The lines of the three sections, for each kind of sheet.
-ghost use Rattle.std.specs.Prelude.{◌≡◌, ℕ, ◌^◌, ◌<◌, ◌≤◌, Bool, ◌&&◌, List, if◌then◌else◌, Some, None, Ok, Err, Option as Maybe, OnOk, nat_lt};
+ghost use Rattle.std.specs.Prelude.{◌≡◌, ℕ, ◌<◌, Bool, ◌&&◌, List, if◌then◌else◌, Some, None, Ok, Err, Option as Maybe, OnOk, nat_lt};
 ghost use Rattle.entry.specs.Held.{held};
 ghost use Rattle.fault.specs.Refusals.{refused, told};
 ghost use Rattle.form.specs.Sheets.{Element as AnElement, element_text, ended, lot_number_text, lot_text, recorded_text, route_text, word_text};
@@ -8,14 +8,15 @@ ghost use Rattle.writer.specs.Written.{Wrote};
 ghost use Rattle.sheet.specs.Code.{bytes, element_of, itself, lot_of, record_of, route_of, valued, word_of};
 ghost use Rattle.sheet.specs.Readers.{Reads, before_of, raw_of, room, seen};
 
-use crate::fields::{Amount, Bits, Numeral};
+use crate::fields::{Bits, Numeral};
 use crate::reader::{RawEntry, Reader};
 use crate::values::{ElementLine, Lot};
-use crate::writing::{put_entry, put_field, put_number, put_price, put_word};
+use crate::writing::{put_entry, put_field, put_number, put_word};
 use element::{Element, Line, Place};
 use entry::Entry;
 use fault::Fault;
 use kinds::Route;
+use std::marker::PhantomData;
 use writer::Writer;
 
 // What a line of a section holds, and how it is read, where `before` is the line before it.
@@ -35,11 +36,9 @@ pub trait Row<'a> {
         reader: &mut Reader<'a>,
         before: Option<&Self::Item>,
     ) -> Result<Self::Item, Fault>
-        requires { room reader.old < 2 ^ 32 }
-        ensures read { Reads value (step self.now (before_of value before.entry)) reader.old result reader.new }
-        ensures room { OnOk result (room reader.new ≤ room reader.old) };
+        ensures { Reads value (step self.now (before_of value before.entry)) reader.old result reader.new };
 
-    fn write(&self, writer: &mut Writer, item: &Self::Item)
+    fn write(writer: &mut Writer, item: &Self::Item)
         ensures { Wrote writer.old (text (value item.now)) writer.new };
 }
 
@@ -62,7 +61,7 @@ impl<'a> Row<'a> for NameRow {
         reader.name_line()
     }
 
-    fn write(&self, writer: &mut Writer, item: &&'a [u8]) {
+    fn write(writer: &mut Writer, item: &&'a [u8]) {
         put_field(writer, item, b'\n');
     }
 }
@@ -86,20 +85,24 @@ impl<'a> Row<'a> for LotRow {
         reader.lot_line()
     }
 
-    fn write(&self, writer: &mut Writer, item: &Lot<'a>) {
+    fn write(writer: &mut Writer, item: &Lot<'a>) {
         put_field(writer, item.name, b' ');
         put_number(writer, item.cap, b'\n');
     }
 }
 
+// The number, where it is below the limit.
+fn below(n: u32, limit: u8) -> Option<u8>
+    ensures { result ≡ (if nat_lt n limit then Some n else None) }
+{
+    u8::try_from(n).ok().filter(|n| *n < limit)
+}
+
 // The element is above that of the record before.
-fn is_above(before: Option<&Line>, element: u32) -> bool
+fn is_above(before: Option<&Line>, element: Element) -> bool
     ensures { result ≡ rises (before_of record_of before.entry) element }
 {
-    match before {
-        Some(last) => u32::from(last.element) < element,
-        None => true,
-    }
+    before.is_none_or(|last| last.element < element)
 }
 
 // Recorded prices: an element and a price each, where there are so many elements.
@@ -120,22 +123,20 @@ impl<'a> Row<'a> for RecordRow {
     ghost text = { recorded_text };
 
     fn read(&self, reader: &mut Reader<'a>, before: Option<&Line>) -> Result<Line, Fault> {
-        let element = reader.field(&Numeral, b' ')?;
-        let price = reader.field(&Amount, b'\n')?;
-        if element >= u32::from(self.elements) {
-            return Err(Fault::NamesNothing { line: reader.line });
-        }
+        let number = reader.field(&Numeral, b' ')?;
+        let price = reader.field(&Numeral, b'\n')?;
+        let line = reader.line;
+        let element = below(number, self.elements).ok_or(Fault::NamesNothing { line })?;
         if !is_above(before, element) {
-            return Err(Fault::NotRising { line: reader.line });
+            return Err(Fault::NotRising { line });
         }
         reader.line += 1;
-        let element = element as Element;
         Ok(Line { element, price })
     }
 
-    fn write(&self, writer: &mut Writer, item: &Line) {
-        put_number(writer, u32::from(item.element), b' ');
-        put_price(writer, item.price, b'\n');
+    fn write(writer: &mut Writer, item: &Line) {
+        put_number(writer, item.element, b' ');
+        put_number(writer, item.price, b'\n');
     }
 }
 
@@ -145,15 +146,14 @@ fn entry_of(raw: RawEntry, line: u32) -> Result<Entry, Fault>
 {
     match raw {
         RawEntry::Known(price) => Ok(Entry::Known(price)),
-        RawEntry::Range(low, high) => match Entry::range(low, high) {
-            Ok(entry) => Ok(entry),
-            Err(_) => Err(Fault::LowNotBelowHigh { line }),
-        },
+        RawEntry::Range(low, high) => {
+            Entry::range(low, high).map_err(|_| Fault::LowNotBelowHigh { line })
+        }
     }
 }
 
-// What follows the entry on an element's line, where the first section has so many lines.
-pub trait Tail<'a>: Sized + Drop {
+// What follows the entry on an element's line, and how it is read, where the first section has `lines` lines.
+pub trait Tail<'a> {
     type Value: Drop;
 
     ghost model: { Type 0 };
@@ -162,42 +162,29 @@ pub trait Tail<'a>: Sized + Drop {
 
     ghost form: { ATail model };
 
-    ghost places: { Self → ℕ };
-
     ghost text: { model → List ℕ };
 
-    fn over(lines: Place) -> Self
-        ensures { places result ≡ lines };
-
     // What the fields name, or none where they name nothing.
-    fn read(&self, reader: &mut Reader<'a>) -> Result<Option<Self::Value>, Fault>
-        ensures read { Reads (valued value) (seen form (places self.now)) reader.old result reader.new }
+    fn read(reader: &mut Reader<'a>, lines: Place) -> Result<Option<Self::Value>, Fault>
+        ensures read { Reads (valued value) (seen form lines) reader.old result reader.new }
         ensures room { OnOk result (room reader.new < room reader.old) };
 
     fn write(writer: &mut Writer, tail: &Self::Value)
         ensures { Wrote writer.old (text (value tail.now)) writer.new };
 }
 
-// Routes: two places.
-#[derive(Clone, Copy)]
-pub struct RouteTail {
-    places: Place,
+// The route between the two places, where both are there.
+fn route(from: u32, to: u32, places: Place) -> Option<Route>
+    ensures { valued route_of result ≡ (if nat_lt from places && nat_lt to places then Some (from, to) else None) }
+{
+    let from = below(from, places)?;
+    let to = below(to, places)?;
+    Some(Route { from, to })
 }
 
-impl RouteTail {
-    fn named(&self, from: u32, to: u32) -> Option<Route>
-        ensures { valued route_of result ≡ (if nat_lt from self.now.places && nat_lt to self.now.places then Some (from, to) else None) }
-    {
-        let places = u32::from(self.places);
-        if from < places && to < places {
-            let from = from as Place;
-            let to = to as Place;
-            Some(Route { from, to })
-        } else {
-            None
-        }
-    }
-}
+// Routes: two places.
+#[derive(Clone, Copy)]
+pub struct RouteTail;
 
 impl<'a> Tail<'a> for RouteTail {
     type Value = Route;
@@ -208,43 +195,23 @@ impl<'a> Tail<'a> for RouteTail {
 
     ghost form = { route_tail };
 
-    ghost places = { λ t. t.places };
-
     ghost text = { route_text };
 
-    fn over(lines: Place) -> RouteTail {
-        RouteTail { places: lines }
-    }
-
-    fn read(&self, reader: &mut Reader<'a>) -> Result<Option<Route>, Fault> {
+    fn read(reader: &mut Reader<'a>, lines: Place) -> Result<Option<Route>, Fault> {
         let from = reader.field(&Numeral, b' ')?;
         let to = reader.field(&Numeral, b'\n')?;
-        Ok(self.named(from, to))
+        Ok(route(from, to, lines))
     }
 
     fn write(writer: &mut Writer, tail: &Route) {
-        put_number(writer, u32::from(tail.from), b' ');
-        put_number(writer, u32::from(tail.to), b'\n');
+        put_number(writer, tail.from, b' ');
+        put_number(writer, tail.to, b'\n');
     }
 }
 
 // Lots: one lot.
 #[derive(Clone, Copy)]
-pub struct LotTail {
-    lots: Place,
-}
-
-impl LotTail {
-    fn named(&self, lot: u32) -> Option<Place>
-        ensures { valued itself result ≡ (if nat_lt lot self.now.lots then Some lot else None) }
-    {
-        if lot < u32::from(self.lots) {
-            Some(lot as Place)
-        } else {
-            None
-        }
-    }
-}
+pub struct LotTail;
 
 impl<'a> Tail<'a> for LotTail {
     type Value = Place;
@@ -255,29 +222,21 @@ impl<'a> Tail<'a> for LotTail {
 
     ghost form = { lot_tail };
 
-    ghost places = { λ t. t.lots };
-
     ghost text = { lot_number_text };
 
-    fn over(lines: Place) -> LotTail {
-        LotTail { lots: lines }
-    }
-
-    fn read(&self, reader: &mut Reader<'a>) -> Result<Option<Place>, Fault> {
+    fn read(reader: &mut Reader<'a>, lines: Place) -> Result<Option<Place>, Fault> {
         let lot = reader.field(&Numeral, b'\n')?;
-        Ok(self.named(lot))
+        Ok(below(lot, lines))
     }
 
     fn write(writer: &mut Writer, tail: &Place) {
-        put_number(writer, u32::from(*tail), b'\n');
+        put_number(writer, *tail, b'\n');
     }
 }
 
 // Words: one letter 0 or 1 for each lamp.
 #[derive(Clone, Copy)]
-pub struct WordTail {
-    lamps: Place,
-}
+pub struct WordTail;
 
 impl<'a> Tail<'a> for WordTail {
     type Value = &'a [u8];
@@ -288,19 +247,10 @@ impl<'a> Tail<'a> for WordTail {
 
     ghost form = { word_tail };
 
-    ghost places = { λ t. t.lamps };
-
     ghost text = { word_text };
 
-    fn over(lines: Place) -> WordTail
-        ensures { result.lamps ≡ lines }
-    {
-        WordTail { lamps: lines }
-    }
-
-    fn read(&self, reader: &mut Reader<'a>) -> Result<Option<&'a [u8]>, Fault> {
-        let bits = Bits { lamps: self.lamps };
-        let word = reader.field(&bits, b'\n')?;
+    fn read(reader: &mut Reader<'a>, lines: Place) -> Result<Option<&'a [u8]>, Fault> {
+        let word = reader.field(&Bits { lamps: lines }, b'\n')?;
         Ok(Some(word))
     }
 
@@ -309,10 +259,11 @@ impl<'a> Tail<'a> for WordTail {
     }
 }
 
-// Elements: an entry and a tail each.
+// Elements: an entry and a tail each, where the first section has so many lines.
 #[derive(Drop)]
 pub struct ElementRow<T> {
-    pub tail: T,
+    pub lines: Place,
+    pub tail: PhantomData<T>,
 }
 
 impl<'a, T: Tail<'a>> Row<'a> for ElementRow<T> {
@@ -322,7 +273,7 @@ impl<'a, T: Tail<'a>> Row<'a> for ElementRow<T> {
 
     ghost value = { element_of T.Tail.value };
 
-    ghost step = { λ f _. element_line T.Tail.form (T.Tail.places f.tail) };
+    ghost step = { λ f _. element_line T.Tail.form f.lines };
 
     ghost text = { element_text T.Tail.text };
 
@@ -332,19 +283,16 @@ impl<'a, T: Tail<'a>> Row<'a> for ElementRow<T> {
         _before: Option<&ElementLine<T::Value>>,
     ) -> Result<ElementLine<T::Value>, Fault> {
         let raw = reader.entry()?;
-        let named = self.tail.read(reader)?;
+        let named = T::read(reader, self.lines)?;
         let line = reader.line;
         let entry = entry_of(raw, line)?;
-        let Some(tail) = named else {
-            return Err(Fault::NamesNothing { line });
-        };
+        let tail = named.ok_or(Fault::NamesNothing { line })?;
         reader.line += 1;
         Ok(ElementLine { entry, tail })
     }
 
-    fn write(&self, writer: &mut Writer, item: &ElementLine<T::Value>) {
-        let entry = item.entry;
-        put_entry(writer, &entry);
+    fn write(writer: &mut Writer, item: &ElementLine<T::Value>) {
+        put_entry(writer, &item.entry);
         T::write(writer, &item.tail);
     }
 }

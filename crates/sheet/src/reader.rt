@@ -1,42 +1,65 @@
 // The lines of a sheet, read one field after another.
-ghost use Rattle.std.specs.Prelude.{◌≡◌, ◌^◌, ◌<◌, ◌≤◌, IfOk, OnOk};
+ghost use Rattle.std.specs.Prelude.{◌≡◌, ◌+◌, ◌^◌, ◌<◌, ◌≤◌, ◌==◌, ◌&&◌, if◌then◌else◌, IfOk, OnOk, Some, None, length, nat_le, position};
 ghost use Rattle.form.specs.Reading.{field, heading, count, entry as an_entry, name_line, lot_line, recorded_line};
 ghost use Rattle.sheet.specs.Code.{bytes, itself, lot_of};
-ghost use Rattle.sheet.specs.Readers.{Cut, Reads, room, raw_of};
 
-use crate::fields::{Amount, EntryLetter, Field, KindWord, Numeral, Title};
+use crate::fields::{EntryLetter, Field, KindWord, Numeral, Title};
 use crate::values::Lot;
 use element::{Place, Price};
 use fault::Fault;
 use form::{Kind, Letter};
 
-// The bytes that are left, and the number of the line that they begin in.
+// The bytes that are left, and the number of the line that they begin in: so few that the number of each line to come fits.
 #[derive(Drop)]
 pub struct Reader<'a> {
     pub rest: &'a [u8],
     pub line: u32,
+    ghost fits: { line + length rest.now < 2 ^ 32 },
 }
 
-// An entry as it is written, whatever its ends are.
+// An entry as it is written, whatever its ends are: an enum of its own, since the low end need not be below the high one yet.
 #[derive(Clone, Copy)]
 pub enum RawEntry {
     Known(Price),
     Range(Price, Price),
 }
 
+// The place of the first byte `wanted`.
+fn place_of(bytes: &[u8], wanted: u8) -> Option<usize>
+    ensures { result ≡ position (λ b. b == wanted) bytes.now }
+{
+    bytes.iter().position(|b| *b == wanted)
+}
+
+// How many lines a section has.
+#[derive(Clone, Copy)]
+pub struct Limits {
+    pub least: Place,
+    pub most: Place,
+}
+
+impl Limits {
+    // The number, where it lies within the limits.
+    fn admit(self, n: u32) -> Option<Place>
+        ensures { result ≡ (if nat_le self.least n && nat_le n self.most then Some n else None) }
+    {
+        Place::try_from(n)
+            .ok()
+            .filter(|n| self.least <= *n && *n <= self.most)
+    }
+}
+
 impl<'a> Reader<'a> {
+    ghost use Rattle.sheet.specs.Readers.{Cut, Reads, room, raw_of};
+
     // The bytes before the first byte `end`; the reader goes on after it.
     fn cut(&mut self, end: u8) -> Option<&'a [u8]>
         ensures { Cut result end self.old self.new }
     {
         let rest = self.rest;
-        for (i, b) in rest.iter().enumerate() {
-            if *b == end {
-                self.rest = &rest[i + 1..];
-                return Some(&rest[..i]);
-            }
-        }
-        None
+        let at = place_of(rest, end)?;
+        self.rest = &rest[at + 1..];
+        Some(&rest[..at])
     }
 
     // What the field that `end` ends holds.
@@ -44,20 +67,14 @@ impl<'a> Reader<'a> {
         ensures read { Reads F.Field.value (field end (F.Field.reads form.now)) self.old result self.new }
         ensures room { OnOk result (room self.new < room self.old) }
     {
-        let Some(w) = self.cut(end) else {
-            return Err(Fault::Malformed { line: self.line });
-        };
-        let Some(x) = form.of(w) else {
-            return Err(Fault::Malformed { line: self.line });
-        };
-        Ok(x)
+        let malformed = Fault::Malformed { line: self.line };
+        let field = self.cut(end).ok_or(malformed)?;
+        form.of(field).ok_or(malformed)
     }
 
     // The first line: the kind and the allowance.
     pub fn heading(&mut self) -> Result<(Kind, u32), Fault>
-        requires { room self.old < 2 ^ 32 }
         ensures read { Reads itself heading self.old result self.new }
-        ensures room { OnOk result (room self.new ≤ room self.old) }
     {
         let kind = self.field(&KindWord, b' ')?;
         let allowance = self.field(&Numeral, b'\n')?;
@@ -66,25 +83,21 @@ impl<'a> Reader<'a> {
     }
 
     // The line with a section's count.
-    pub fn count(&mut self, least: Place, most: Place) -> Result<Place, Fault>
-        requires { room self.old < 2 ^ 32 }
-        ensures read { Reads itself (count least most) self.old result self.new }
-        ensures room { OnOk result (room self.new ≤ room self.old) }
-        ensures most { IfOk result (λ n. n ≤ most) }
+    pub fn count(&mut self, limits: Limits) -> Result<Place, Fault>
+        ensures read { Reads itself (count limits.least limits.most) self.old result self.new }
+        ensures most { IfOk result (λ n. n ≤ limits.most) }
     {
         let n = self.field(&Numeral, b'\n')?;
-        if n < u32::from(least) || n > u32::from(most) {
-            return Err(Fault::CountBeyondLimit { line: self.line });
-        }
+        let count = limits
+            .admit(n)
+            .ok_or(Fault::CountBeyondLimit { line: self.line })?;
         self.line += 1;
-        Ok(n as Place)
+        Ok(count)
     }
 
     // The line of a place or a lamp: its name.
     pub fn name_line(&mut self) -> Result<&'a [u8], Fault>
-        requires { room self.old < 2 ^ 32 }
         ensures read { Reads bytes name_line self.old result self.new }
-        ensures room { OnOk result (room self.new ≤ room self.old) }
     {
         let name = self.field(&Title, b'\n')?;
         self.line += 1;
@@ -93,9 +106,7 @@ impl<'a> Reader<'a> {
 
     // A lot's line: its name and its cap.
     pub fn lot_line(&mut self) -> Result<Lot<'a>, Fault>
-        requires { room self.old < 2 ^ 32 }
         ensures read { Reads lot_of lot_line self.old result self.new }
-        ensures room { OnOk result (room self.new ≤ room self.old) }
     {
         let name = self.field(&Title, b' ')?;
         let cap = self.field(&Numeral, b'\n')?;
@@ -106,16 +117,15 @@ impl<'a> Reader<'a> {
     // The letter of an element's line, and its price or its two ends.
     pub fn entry(&mut self) -> Result<RawEntry, Fault>
         ensures read { Reads raw_of an_entry self.old result self.new }
-        ensures room { OnOk result (room self.new < room self.old) }
     {
         match self.field(&EntryLetter, b' ')? {
             Letter::K => {
-                let price = self.field(&Amount, b' ')?;
+                let price = self.field(&Numeral, b' ')?;
                 Ok(RawEntry::Known(price))
             }
             Letter::R => {
-                let low = self.field(&Amount, b' ')?;
-                let high = self.field(&Amount, b' ')?;
+                let low = self.field(&Numeral, b' ')?;
+                let high = self.field(&Numeral, b' ')?;
                 Ok(RawEntry::Range(low, high))
             }
         }

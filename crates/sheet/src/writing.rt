@@ -1,11 +1,10 @@
 // The fields of a sheet, as they are written.
-ghost use Rattle.std.specs.Prelude.{◌≡◌, [], ◌∷◌, ◌++◌, map, decimal};
+ghost use Rattle.std.specs.Prelude.{◌≡◌, ℕ, [], ◌∷◌, ◌++◌, map, decimal};
 ghost use Rattle.entry.specs.Held.{held};
-ghost use Rattle.form.specs.Sheets.{entry_text, price_text, word_text};
+ghost use Rattle.form.specs.Sheets.{entry_text, word_text};
 ghost use Rattle.writer.specs.Written.{Wrote};
 ghost use Rattle.sheet.specs.Code.{bit_of, ones};
 
-use element::Price;
 use entry::Entry;
 use writer::Writer;
 
@@ -17,19 +16,11 @@ pub fn put_field(writer: &mut Writer, field: &[u8], end: u8)
     writer.byte(end);
 }
 
-// A number, and the byte that ends it.
-pub fn put_number(writer: &mut Writer, n: u32, end: u8)
-    ensures { Wrote writer.old (decimal n ++ (end ∷ [])) writer.new }
+// A number or a price, and the byte that ends it.
+pub fn put_number<N: Into<u64>>(writer: &mut Writer, n: N, end: u8)
+    ensures { (d : ℕ) × N.converts n d × Wrote writer.old (decimal d ++ (end ∷ [])) writer.new }
 {
-    writer.number(u64::from(n));
-    writer.byte(end);
-}
-
-// A price or an end of a range, and the byte that ends it.
-pub fn put_price(writer: &mut Writer, price: Price, end: u8)
-    ensures { Wrote writer.old (price_text price ++ (end ∷ [])) writer.new }
-{
-    writer.number(u64::from(price));
+    writer.number(n.into());
     writer.byte(end);
 }
 
@@ -37,13 +28,16 @@ pub fn put_price(writer: &mut Writer, price: Price, end: u8)
 pub fn put_entry(writer: &mut Writer, entry: &Entry)
     ensures { Wrote writer.old (entry_text (held entry.now)) writer.new }
 {
-    if entry.is_known() {
-        put_field(writer, b"k", b' ');
-        put_price(writer, entry.low(), b' ');
-    } else {
-        put_field(writer, b"r", b' ');
-        put_price(writer, entry.low(), b' ');
-        put_price(writer, entry.high(), b' ');
+    match entry {
+        Entry::Known(price) => {
+            put_field(writer, b"k", b' ');
+            put_number(writer, *price, b' ');
+        }
+        Entry::Range(_) => {
+            put_field(writer, b"r", b' ');
+            put_number(writer, entry.low(), b' ');
+            put_number(writer, entry.high(), b' ');
+        }
     }
 }
 

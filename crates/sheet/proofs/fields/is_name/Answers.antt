@@ -1,19 +1,13 @@
-use Rattle.std.proofs.Common.{leb, length, sym, arith, false-eqb}
-use Rattle.std.proofs.lemmas.Bool.{and_from, and_right, le-leb}
-use Rattle.form.specs.Sheets.{name_byte, most_letters}
-use Rattle.sheet.proofs.Scans.{each_more, each_not, each_all}
+use Rattle.std.proofs.Common.{rules, tests, arith}
+use Rattle.std.proofs.lemmas.Iterator.{YieldsList-from_slice}
+use Rattle.std.proofs.lemmas.Iterator.Search.{all_from_yields_List}
+use Rattle.std.proofs.lemmas.Bool.Decides.{nat_tests}
+use Rattle.form.specs.Sheets.{name_byte}
+use Rattle.sheet.proofs.Scans.{each_is}
 use Rattle.sheet.proofs.fields.is_name.Goals as goal
 
-pub returns-then-not-is_name_byte : goal.returns-then-not-is_name_byte
-returns-then-not-is_name_byte c =
-    sym (and_right (leb 1 (length c.args.field.now)) _ (and_right (leb (length c.args.field.now) most_letters) _
-    (each_not name_byte c.args.field.now c.loop-b.b-index c.loop-b.invariant (omega arith) (sym c.if-not-is_name_byte.ensures))))
-
-pub loop-b-preserved : goal.loop-b-preserved
-loop-b-preserved c = each_more name_byte c.args.field.now c.loop-b.b-index c.loop-b.invariant (omega arith) (sym c.if-not-is_name_byte.ensures)
-
-pub returns : goal.returns
-returns c =
-    sym (and_from (leb 1 (length c.args.field.now)) _ (le-leb 1 _ (omega (arith, false-eqb _ 0 c.if-is_empty.ensures)))
-    (and_from (leb (length c.args.field.now) most_letters) _ (le-leb _ most_letters (omega arith))
-    (each_all name_byte c.args.field.now c.loop-b.b-index c.loop-b.invariant (omega arith))))
+pub returns-then-field-le12 : goal.returns-then-field-le12
+returns-then-field-le12 c =
+    let a = all_from_yields_List name_byte _ _ c.all.result c.all.ensures.ran (YieldsList-from_slice c.args.field.now cc) (λ x b q k. search (rules, tests)) in
+    let e = each_is name_byte c.args.field.now in
+    grind (arith, nat_tests)

@@ -1,18 +1,13 @@
-use Rattle.std.proofs.Common.{eqb, length, sym, arith}
-use Rattle.std.proofs.lemmas.Bool.{and_from, and_right, eq-eqb}
+use Rattle.std.proofs.Common.{rules, tests, arith}
+use Rattle.std.proofs.lemmas.Iterator.{YieldsList-from_slice}
+use Rattle.std.proofs.lemmas.Iterator.Search.{all_from_yields_List}
+use Rattle.std.proofs.lemmas.Bool.Decides.{nat_tests}
 use Rattle.sheet.specs.Code.{is_bit}
-use Rattle.sheet.proofs.Scans.{each_more, each_not, each_all}
+use Rattle.sheet.proofs.Scans.{each_is}
 use Rattle.sheet.proofs.fields.is_word.Goals as goal
 
-pub returns-then-not-is_bit : goal.returns-then-not-is_bit
-returns-then-not-is_bit c =
-    sym (and_right (eqb (length c.args.field.now) c.args.lamps) _
-    (each_not is_bit c.args.field.now c.loop-b.b-index c.loop-b.invariant (omega arith) (sym c.if-not-is_bit.ensures)))
-
-pub loop-b-preserved : goal.loop-b-preserved
-loop-b-preserved c = each_more is_bit c.args.field.now c.loop-b.b-index c.loop-b.invariant (omega arith) (sym c.if-not-is_bit.ensures)
-
-pub returns : goal.returns
-returns c =
-    sym (and_from (eqb (length c.args.field.now) c.args.lamps) _ (eq-eqb _ _ (omega arith))
-    (each_all is_bit c.args.field.now c.loop-b.b-index c.loop-b.invariant (omega arith)))
+pub returns-then-field-from : goal.returns-then-field-from
+returns-then-field-from c =
+    let a = all_from_yields_List is_bit _ _ c.all.result c.all.ensures.ran (YieldsList-from_slice c.args.field.now cc) (λ x b q k. search (rules, tests)) in
+    let e = each_is is_bit c.args.field.now in
+    grind (arith, nat_tests)

@@ -1,8 +1,0 @@
-use Rattle.std.proofs.Common.{[], ◌∷◌, ◌++◌, decimal, ap}
-use Rattle.writer.proofs.Writing.{wrote_as, wrote_both}
-use Rattle.sheet.proofs.lines.RouteTailTail.write.Goals as goal
-
-pub returns : goal.returns
-returns c =
-    wrote_both (wrote_as (ap (λ n. decimal n ++ (32 ∷ [])) c.from.ensures) c.put_number.ensures)
-    (wrote_as (ap (λ n. decimal n ++ (10 ∷ [])) c.from-2.ensures) c.put_number-2.ensures)
