@@ -49,6 +49,11 @@ abbrev pub report_reply : Meaning → State → List Bool → Reply
 report_reply m s marks =
     cond (nat_lt (length marks) all_marks) (record { answer = Err (refused 14 0 0); marks = marks }) (showing m.size (report m s) marks)
 
+-- the reply to a run and then a report, of which the report is made only where the run is not refused
+abbrev pub followed : Result (Unit {0}) Refusal → List Bool → Reply → Reply
+followed (Err f) marks r = record { answer = Err f; marks = marks }
+followed (Ok u) marks r = r
+
 -- a call's own sources and marks after it
 abbrev pub spent_call : Meaning → State → Call → Call
 spent_call m s (step_with σ) = step_with (step m s σ).source

@@ -1,42 +1,32 @@
 -- What becomes of a stage when a price comes up, by which an element is taken later.
-use Rattle.std.proofs.Common.{◌≡◌, ℕ, ◌<◌, ◌≤◌, Bool, true, false, cond, not, ◌&&◌, ◌||◌, eqb, ltb, sym, refl, ap, ◌∙◌, subst, inl, inr, arith}
+use Rattle.std.proofs.Common.{◌≡◌, ℕ, ◌<◌, ◌≤◌, Bool, true, false, cond, not, eqb, sym, refl, ap, ◌∙◌, subst, inl, inr, arith}
 use mathlib.Core.Path.{fun_ext}
-use Rattle.std.proofs.lemmas.Bool.{both_ways, not-true, not-false, not_from_false, not_from_true, cond-true, cond-false, cases_Bool, cases_eq, cases_lt, and_parts, and_from, and_left, and_right, or_from, or_left, or_right, eqb-false, eq-eqb, ne_eqb, ltb-true, lt-ltb, false≢true}
-use Rattle.entry.specs.Entries.{Entry, Known, Range, low, high, inside}
+use Rattle.std.proofs.lemmas.Bool.{both_ways, cond-true, cond-false, cases_Bool, cases_eq, cases_lt, and_parts, and_left, and_right, ne_eqb, ltb-true}
+use Rattle.std.proofs.lemmas.Bool.Decides.{nat_tests}
+use Rattle.entry.specs.Entries.{Entry, Known, low, high, inside}
 use Rattle.matroid.specs.Sets.{Elements, with, without, Part}
 use Rattle.matroid.specs.Matroids.{Meaning, Laws}
 use Rattle.matroid.specs.Circuits.{Closes, circuit}
-use Rattle.matroid.proofs.Members.{none_false, with_here, with_there, with_cases, with_other, without_parts, without_from, without_here, without_other, every_true, every_false, every_from}
+use Rattle.matroid.proofs.Members.{none_false, with_here, with_there, with_cases, with_other, without_parts, without_here, every_true, every_false, every_from}
 use Rattle.matroid.proofs.Circuits.{circuit_inside}
 use Rattle.promise.specs.Surveys.{priced}
 use Rattle.promise.specs.Walks.{earlier, topped}
 use Rattle.promise.proofs.Orders.{no_later, no_later_chain, no_later_either}
 use Rattle.walk.specs.Stages.{Next, Reached, begins, keeps, drops, lower, overtaken, behind, standing}
-use Rattle.walk.proofs.Stages.{no_later_low, leads_untaken, leads_before, leads_from, stage_independent, stage_below, stage_part, stage_order, part_dependent, part_circuit, Tops, tops_from, topped_from, stage_dropped}
+use Rattle.walk.proofs.Stages.{leads_untaken, leads_before, leads_from, stage_independent, stage_below, stage_part, stage_order, part_dependent, part_circuit, Tops, tops_from, topped_from, stage_as, stage_dropped}
 
 -- ## The elements of low ends below h
 
 module _ (m : Meaning) (E : ℕ → Entry) (h : ℕ) where
   lower_less : (S : Elements) (e : ℕ) → h ≤ low (E e) → lower E h (with S e) ≡ lower E h S
-  lower_less S e l = fun_ext (λ i. elim (cases_eq i e) [
-    | inl q ↦
-        let z : ltb (low (E i)) h ≡ false = none_false (ltb (low (E i)) h) (λ t. let a = ltb-true (low (E i)) h t in let b = ap (λ (j : ℕ). low (E j)) q in omega arith) in
-        and_right (with S e i) _ z ∙ sym (and_right (S i) _ z)
-    | inr q ↦ ap (λ (b : Bool). b && ltb (low (E i)) h) (with_other S e i q)
-  ])
+  lower_less S e l = fun_ext (λ i. grind (arith, nat_tests))
 
   lower_all : (S : Elements) → ((i : ℕ) → S i ≡ true → low (E i) < h) → lower E h S ≡ S
-  lower_all S a = fun_ext (λ i. elim (cases_Bool (S i)) [
-    | inl s ↦ and_from (S i) _ s (lt-ltb (low (E i)) h (a i s)) ∙ sym s
-    | inr s ↦ and_left (S i) _ s ∙ sym s
-  ])
+  lower_all S a = fun_ext (λ i. grind (arith, nat_tests, a i))
 
   -- what is taken before an element whose low is below h has such lows too
   all_lower : (S L : Elements) (e : ℕ) → Reached m E S L → Next m E S e → low (E e) < h → (i : ℕ) → with S e i ≡ true → low (E i) < h
-  all_lower S L e r x l i t = elim (with_cases S e i t) [
-    | inl q ↦ let b = ap (λ (j : ℕ). low (E j)) q in omega arith
-    | inr q ↦ let o = stage_order m E S L r i e q x.below (leads_untaken m.size E S e x.leading) in omega arith
-  ]
+  all_lower S L e r x l i t = grind (arith, nat_tests, x.below, leads_untaken m.size E S e x.leading, stage_order m E S L r i e)
 
   -- a stage with the elements of such lows alone
   pub stage_lower : (T K : Elements) → Reached m E T K → Reached m E (lower E h T) (lower E h K)
@@ -44,37 +34,29 @@ module _ (m : Meaning) (E : ℕ → Entry) (h : ℕ) where
   stage_lower T K (keeps S L e r x f) = elim (cases_lt (low (E e)) h) [
     | inl l ↦
         let a = all_lower S L e r x l in
-        subst (λ (A : Elements). Reached m E A (lower E h (with L e))) (sym (lower_all (with S e) a))
-        (subst (λ (B : Elements). Reached m E (with S e) B) (sym (lower_all (with L e) (λ i t. a i (stage_part m E (with S e) (with L e) (keeps S L e r x f) i t))))
-        (keeps S L e r x f))
-    | inr l ↦
-        subst (λ (A : Elements). Reached m E A (lower E h (with L e))) (sym (lower_less S e l))
-        (subst (λ (B : Elements). Reached m E (lower E h S) B) (sym (lower_less L e l)) (stage_lower S L r))
+        let q = keeps S L e r x f in
+        stage_as m E _ _ _ _ (lower_all (with S e) a) (lower_all (with L e) (λ i t. a i (stage_part m E (with S e) (with L e) q i t))) q
+    | inr l ↦ stage_as m E _ _ _ _ (lower_less S e l) (lower_less L e l) (stage_lower S L r)
   ]
   stage_lower T K (drops S L e r x f z) = elim (cases_lt (low (E e)) h) [
     | inl l ↦
         let a = all_lower S L e r x l in
-        subst (λ (A : Elements). Reached m E A (lower E h L)) (sym (lower_all (with S e) a))
-        (subst (λ (B : Elements). Reached m E (with S e) B) (sym (lower_all L (λ i t. a i (stage_part m E (with S e) L (drops S L e r x f z) i t))))
-        (drops S L e r x f z))
-    | inr l ↦ subst (λ (A : Elements). Reached m E A (lower E h L)) (sym (lower_less S e l)) (stage_lower S L r)
+        let q = drops S L e r x f z in
+        stage_as m E _ _ _ _ (lower_all (with S e) a) (lower_all L (λ i t. a i (stage_part m E (with S e) L q i t))) q
+    | inr l ↦ stage_as m E _ _ _ _ (lower_less S e l) refl (stage_lower S L r)
   ]
 
 -- ## A price that comes up
 
 inside_low : (x : Entry) (p : ℕ) → inside x p ≡ true → low x < p
-inside_low (Known q) p h = absurd (false≢true h)
-inside_low (Range l u) p h = ltb-true l p (and_parts (ltb l p) (ltb p u) h).0
+inside_low x p h = grind (arith, nat_tests)
 
 inside_high : (x : Entry) (p : ℕ) → inside x p ≡ true → p < high x
-inside_high (Known q) p h = absurd (false≢true h)
-inside_high (Range l u) p h = ltb-true p u (and_parts (ltb l p) (ltb p u) h).1
+inside_high x p h = grind (arith, nat_tests)
 
 -- two entries that are the same in both lists are in the same order
 same_order : (E F : ℕ → Entry) (i j : ℕ) → F i ≡ E i → F j ≡ E j → no_later E i j ≡ true → no_later F i j ≡ true
-same_order E F i j a b h =
-    subst (λ (A : Entry). (eqb j i || (ltb (low A) (low (F j)) || (eqb (low A) (low (F j)) && (ltb (high A) (high (F j)) || (eqb (high A) (high (F j)) && ltb i j))))) ≡ true) (sym a)
-    (subst (λ (B : Entry). (eqb j i || (ltb (low (E i)) (low B) || (eqb (low (E i)) (low B) && (ltb (high (E i)) (high B) || (eqb (high (E i)) (high B) && ltb i j))))) ≡ true) (sym b) h)
+same_order E F i j a b h = rw (a, b) h
 
 -- where the entries of all elements are the same, so are the stages
 module _ (m : Meaning) (E F : ℕ → Entry) (same : (i : ℕ) → i < m.size → F i ≡ E i) where
@@ -96,68 +78,38 @@ module _ (m : Meaning) (E F : ℕ → Entry) (same : (i : ℕ) → i < m.size �
 
 -- without x, with e
 commute : (S : Elements) (e x : ℕ) → (e ≡ x → ⊥) → without (with S e) x ≡ with (without S x) e
-commute S e x d = fun_ext (λ i. elim (cases_eq i e) [
-  | inl q ↦ without_from (with S e) x i (λ v. d (sym q ∙ v)) (or_left (eqb i e) (S i) (eq-eqb i e q)) ∙ sym (or_left (eqb i e) (without S x i) (eq-eqb i e q))
-  | inr q ↦ ap (λ (b : Bool). not (eqb i x) && b) (with_other S e i q) ∙ sym (with_other (without S x) e i q)
-])
+commute S e x d = fun_ext (λ i. grind (arith, nat_tests))
 
 without_with : (S : Elements) (x : ℕ) → without (with S x) x ≡ without S x
-without_with S x = fun_ext (λ i. elim (cases_eq i x) [
-  | inl q ↦ let z = not_from_true (eqb i x) (eq-eqb i x q) in and_left (not (eqb i x)) _ z ∙ sym (and_left (not (eqb i x)) _ z)
-  | inr q ↦ ap (λ (b : Bool). not (eqb i x) && b) (with_other S x i q)
-])
+without_with S x = fun_ext (λ i. grind (arith, nat_tests))
 
 with_without : (S : Elements) (x : ℕ) → S x ≡ true → with (without S x) x ≡ S
-with_without S x s = fun_ext (λ i. elim (cases_eq i x) [
-  | inl q ↦ or_left (eqb i x) (without S x i) (eq-eqb i x q) ∙ sym (subst (λ (j : ℕ). S j ≡ true) (sym q) s)
-  | inr q ↦ with_other (without S x) x i q ∙ without_other S x i q
-])
+with_without S x s = fun_ext (λ i. grind (arith, nat_tests))
 
 without_absent : (S : Elements) (x : ℕ) → S x ≡ false → without S x ≡ S
-without_absent S x s = fun_ext (λ i. elim (cases_eq i x) [
-  | inl q ↦ and_left (not (eqb i x)) _ (not_from_true (eqb i x) (eq-eqb i x q)) ∙ sym (subst (λ (j : ℕ). S j ≡ false) (sym q) s)
-  | inr q ↦ without_other S x i q
-])
+without_absent S x s = fun_ext (λ i. grind (arith, nat_tests))
 
 -- x is earlier than a member of S, or not
 module _ (n : ℕ) (E : ℕ → Entry) (x : ℕ) (S : Elements) where
   behind_true : behind n E x S ≡ true → (i : ℕ) → i < n → S i ≡ true → (i ≡ x → ⊥) → earlier E x i ≡ false
-  behind_true h i l s d = none_false (earlier E x i) (λ t.
-      both_ways (overtaken E x S i) (not-true (overtaken E x S i) (every_true n (λ i. not (overtaken E x S i)) h i l))
-      (and_from (S i) _ s (and_from (not (eqb i x)) (earlier E x i) (not_from_false (eqb i x) (ne_eqb i x d)) t)))
+  behind_true h i l s d = grind (arith, nat_tests, every_true n (λ i. not (overtaken E x S i)) h i l)
 
   behind_false : behind n E x S ≡ false → (i : ℕ) × (i < n) × (S i ≡ true) × (i ≡ x → ⊥) × (earlier E x i ≡ true)
   behind_false h =
       let f = every_false n (λ i. not (overtaken E x S i)) h in
-      let a = and_parts (S f.0) _ (not-false (overtaken E x S f.0) f.2) in
-      let b = and_parts (not (eqb f.0 x)) (earlier E x f.0) a.1 in
-      (f.0, f.1, a.0, eqb-false f.0 x (not-true (eqb f.0 x) b.0), b.1)
+      (f.0, f.1, grind (arith, nat_tests, f.2), grind (arith, nat_tests, f.2), grind (arith, nat_tests, f.2))
 
   behind_from : ((i : ℕ) → i < n → S i ≡ true → (i ≡ x → ⊥) → earlier E x i ≡ false) → behind n E x S ≡ true
-  behind_from h = every_from n (λ i. not (overtaken E x S i)) (λ i l. not_from_false (overtaken E x S i) (none_false (overtaken E x S i) (λ t.
-      let a = and_parts (S i) _ t in
-      let b = and_parts (not (eqb i x)) (earlier E x i) a.1 in
-      both_ways (earlier E x i) (h i l a.0 (eqb-false i x (not-true (eqb i x) b.0))) b.1)))
+  behind_from h = every_from n (λ i. not (overtaken E x S i)) (λ i l. grind (arith, nat_tests, h i l))
 
 -- x, an element, costs p, which lies in its range
 module _ (m : Meaning) (laws : Laws m) (E : ℕ → Entry) (x p : ℕ) (cost : inside (E x) p ≡ true) (element : x < m.size) where
   abbrev New : ℕ → Entry
   New = priced E x p
 
-  other : (i : ℕ) → (i ≡ x → ⊥) → New i ≡ E i
-  other i d = cond-false (eqb i x) (Known p) (E i) (ne_eqb i x d)
-
-  here : New x ≡ Known p
-  here = cond-true (eqb x x) (Known p) (E x) (eq-eqb x x refl)
-
   -- what x stands before with its price has a low that is above its own without it
   delayed : (i : ℕ) → (i ≡ x → ⊥) → earlier New x i ≡ true → low (E x) < low (E i)
-  delayed i d h =
-      let a = no_later_low New x i (or_right (eqb i x) (earlier New x i) h) in
-      let b = ap low here in
-      let c = ap low (other i d) in
-      let e = inside_low (E x) p cost in
-      omega arith
+  delayed i d h = grind (arith, nat_tests, inside_low (E x) p cost)
 
   -- so x is taken where something is that x stands before
   taken_too : (T K : Elements) → Reached m E T K → (i : ℕ) → T i ≡ true → (i ≡ x → ⊥) → earlier New x i ≡ true → T x ≡ false → ⊥
@@ -171,54 +123,37 @@ module _ (m : Meaning) (laws : Laws m) (E : ℕ → Entry) (x p : ℕ) (cost : i
     next_with : S x ≡ true → Next m New S e
     next_with s = record {
       below = y.below;
-      leading = leads_from m.size New S e untaken (λ j l u.
-          same_order E New e j (other e d) (other j (λ q. both_ways (S x) (subst (λ (k : ℕ). S k ≡ false) q u) s)) (leads_before m.size E S e y.leading j l u));
+      leading = leads_from m.size New S e untaken (λ j l u. let b = leads_before m.size E S e y.leading j l u in grind (arith, nat_tests));
     }
-
-    -- what is not taken without x
-    still : (j : ℕ) → (j ≡ x → ⊥) → without S x j ≡ false → S j ≡ false
-    still j q u = sym (without_other S x j q) ∙ u
 
     -- e is the next without x, where x is not earlier
     next_without : earlier New x e ≡ false → Next m New (without S x) e
     next_without v = record {
       below = y.below;
-      leading = leads_from m.size New (without S x) e (and_right (not (eqb e x)) (S e) untaken) (λ j l u. elim (cases_eq j x) [
-        | inl q ↦ subst (λ (k : ℕ). no_later New e k ≡ true) (sym q) (no_later_either New x e (or_from (eqb e x) (earlier New x e) (ne_eqb e x d) v))
-        | inr q ↦ same_order E New e j (other e d) (other j q) (leads_before m.size E S e y.leading j l (still j q u))
-      ]);
+      leading = leads_from m.size New (without S x) e (grind (arith, nat_tests, untaken)) (λ j l u.
+          grind (arith, nat_tests, leads_before m.size E S e y.leading j l, no_later_either New x e));
     }
 
     -- x is the next without x, where it is earlier than e
     next_x : earlier New x e ≡ true → Next m New (without S x) x
     next_x v = record {
       below = element;
-      leading = leads_from m.size New (without S x) x (without_here S x) (λ j l u. elim (cases_eq j x) [
-        | inl q ↦ or_left (eqb j x) (earlier New x j) (eq-eqb j x q)
-        | inr q ↦ no_later_chain New x e j (or_right (eqb e x) (earlier New x e) v)
-            (same_order E New e j (other e d) (other j q) (leads_before m.size E S e y.leading j l (still j q u)))
-      ]);
+      leading = leads_from m.size New (without S x) x (without_here S x) (λ j l u. grind (arith, nat_tests, leads_before m.size E S e y.leading j l, no_later_chain New x e j));
     }
 
     -- x is taken anew
     retaken : S x ≡ true → earlier New x e ≡ true → Reached m New (without S x) (without L x) → Reached m New S L
-    retaken s v w =
-        subst (λ (A : Elements). Reached m New A L) (with_without S x s) (elim (cases_Bool (L x)) [
-          | inl k ↦
-              let is = with_without L x k in
-              subst (λ (B : Elements). Reached m New (with (without S x) x) B) is
-              (keeps (without S x) (without L x) x w (next_x v) (subst (λ (B : Elements). m.independent B ≡ true) (sym is) (stage_independent m E laws S L r)))
-          | inr k ↦
-              let is = without_absent L x k in
-              let o = stage_dropped m laws E S L r x s k in
-              drops (without S x) L x (subst (λ (B : Elements). Reached m New (without S x) B) is w) (next_x v) o.closes.dependent
-              (topped_from m.size New (circuit m L x) x (λ i li c q.
-              let a = o.tops i li c q in
-              let b = ap high (other i q) in
-              let f = ap low here in
-              let g = inside_low (E x) p cost in
-              omega arith))
-        ])
+    retaken s v w = elim (cases_Bool (L x)) [
+      | inl k ↦
+          let is = with_without L x k in
+          let free = subst (λ (B : Elements). m.independent B ≡ true) (sym is) (stage_independent m E laws S L r) in
+          stage_as m New _ _ _ _ (sym (with_without S x s)) (sym is) (keeps (without S x) (without L x) x w (next_x v) free)
+      | inr k ↦
+          let o = stage_dropped m laws E S L r x s k in
+          let tops = topped_from m.size New (circuit m L x) x (λ i li c q. let a = o.tops i li c q in grind (arith, nat_tests, inside_low (E x) p cost)) in
+          let rest = stage_as m New _ _ _ _ refl (sym (without_absent L x k)) w in
+          stage_as m New _ _ _ _ (sym (with_without S x s)) refl (drops (without S x) L x rest (next_x v) o.closes.dependent tops)
+    ]
 
     -- e tops its circuit, in which x is not
     module _ (f : m.independent (with L e) ≡ false) (z : topped m.size E (circuit m L e) e ≡ true) (reach : low (E e) < high (E x)) where
@@ -226,24 +161,14 @@ module _ (m : Meaning) (laws : Laws m) (E : ℕ → Entry) (x p : ℕ) (cost : i
       closes = record { below = y.below; independent = stage_independent m E laws S L r; dependent = f }
 
       not_x : (i : ℕ) → i < m.size → circuit m L e i ≡ true → i ≡ x → ⊥
-      not_x i li c q =
-          let a = tops_from m.size E (circuit m L e) e z i li c (λ v. d (sym v ∙ q)) in
-          let w = ap (λ (j : ℕ). high (E j)) q in
-          omega arith
+      not_x i li c q = let a = tops_from m.size E (circuit m L e) e z i li c (λ v. d (sym v ∙ q)) in grind (arith, nat_tests)
 
       -- so it tops the same members with the price
       tops_new : Tops m.size New (circuit m L e) e
-      tops_new i li c q =
-          let a = tops_from m.size E (circuit m L e) e z i li c q in
-          let b = ap high (other i (not_x i li c)) in
-          let w = ap low (other e d) in
-          omega arith
+      tops_new i li c q = let a = tops_from m.size E (circuit m L e) e z i li c q in let b = not_x i li c in grind (arith, nat_tests)
 
       in_rest : Part m.size (circuit m L e) (with (without L x) e)
-      in_rest i li c = elim (with_cases L e i (circuit_inside m L e i c)) [
-        | inl q ↦ subst (λ (j : ℕ). with (without L x) e j ≡ true) (sym q) (with_here (without L x) e)
-        | inr q ↦ with_there (without L x) e i (without_from L x i (not_x i li c) q)
-      ]
+      in_rest i li c = let a = circuit_inside m L e i c in let b = not_x i li c in grind (arith, nat_tests)
 
       rest_part : Part m.size (without L x) L
       rest_part i li c = (without_parts L x i c).1
@@ -266,9 +191,7 @@ module _ (m : Meaning) (laws : Laws m) (E : ℕ → Entry) (x p : ℕ) (cost : i
   -- x itself is taken
   moved_x : (S L K : Elements) → Reached m E S L → Next m E S x → without K x ≡ without L x → Moved S L → Moved (with S x) K
   moved_x S L K r y same w = (
-    λ h.
-        subst (λ (A : Elements). Reached m New A (without K x)) (sym (without_with S x))
-        (subst (λ (B : Elements). Reached m New (without S x) B) (sym same) (w.0 (behind_before S x h))),
+    λ h. stage_as m New _ _ _ _ (without_with S x) same (w.0 (behind_before S x h)),
     λ h.
         let b = behind_false m.size New x (with S x) h in
         absurd (taken_too S L r b.0 (sym (with_other S x b.0 b.3) ∙ b.2) b.3 b.4 (leads_untaken m.size E S x y.leading)),
@@ -282,13 +205,12 @@ module _ (m : Meaning) (laws : Laws m) (E : ℕ → Entry) (x p : ℕ) (cost : i
     x_taken : behind m.size New x (with S e) ≡ false → S x ≡ false → ⊥
     x_taken h u =
         let b = behind_false m.size New x (with S e) h in
-        elim (with_cases S e b.0 b.2) [
-          | inl q ↦
-              let a = delayed e d (subst (λ (j : ℕ). earlier New x j ≡ true) q b.4) in
-              let o = no_later_low E e x (leads_before m.size E S e y.leading x element u) in
-              omega arith
-          | inr q ↦ taken_too S L r b.0 q b.3 b.4 u
-        ]
+        let f = taken_too S L r b.0 in
+        let o = leads_before m.size E S e y.leading x element u in
+        let a = delayed b.0 b.3 b.4 in
+        let g : S b.0 ≡ true → ⊥ = λ t. f t b.3 b.4 u in
+        let k = b.2 in
+        grind (arith, nat_tests)
 
     comes : behind m.size New x (with S e) ≡ false → (S x ≡ true) × Reached m New S L
     comes h =
@@ -306,20 +228,15 @@ module _ (m : Meaning) (laws : Laws m) (E : ℕ → Entry) (x p : ℕ) (cost : i
 
     moved_keeps : m.independent (with L e) ≡ true → Moved (with S e) (with L e)
     moved_keeps f = (
-      λ h.
-          subst (λ (A : Elements). Reached m New A (without (with L e) x)) (sym (commute S e x d))
-          (subst (λ (B : Elements). Reached m New (with (without S x) e) B) (sym (commute L e x d))
+      λ h. stage_as m New _ _ _ _ (commute S e x d) (commute L e x d)
           (keeps (without S x) (without L x) e (w.0 (behind_before S e h)) (next_without S L e r y d (stays_behind h))
-          (laws.part (with (without L x) e) (with L e) (λ i li c. elim (with_cases (without L x) e i c) [
-            | inl v ↦ subst (λ (j : ℕ). with L e j ≡ true) (sym v) (with_here L e)
-            | inr v ↦ with_there L e i (without_parts L x i v).1
-          ]) f))),
+          (laws.part (with (without L x) e) (with L e) (λ i li c. grind (arith, nat_tests)) f)),
       λ h. let a = comes h in keeps S L e a.1 (next_with S L e r y d a.0) f,
     )
 
     moved_drops : m.independent (with L e) ≡ false → topped m.size E (circuit m L e) e ≡ true → low (E e) < high (E x) → Moved (with S e) L
     moved_drops f z reach = (
-      λ h. subst (λ (A : Elements). Reached m New A (without L x)) (sym (commute S e x d)) (dropped_without S L e r y d f z reach (stays_behind h) (w.0 (behind_before S e h))),
+      λ h. stage_as m New _ _ _ _ (commute S e x d) refl (dropped_without S L e r y d f z reach (stays_behind h) (w.0 (behind_before S e h))),
       λ h. let a = comes h in dropped_with S L e r y d f z reach a.0 a.1,
     )
 
@@ -345,15 +262,7 @@ module _ (m : Meaning) (laws : Laws m) (E : ℕ → Entry) (x p : ℕ) (cost : i
 
 -- the price of x does not change which lows are below its high
 lower_new : (E : ℕ → Entry) (x p : ℕ) → inside (E x) p ≡ true → (S : Elements) → lower (priced E x p) (high (E x)) S ≡ lower E (high (E x)) S
-lower_new E x p cost S = fun_ext (λ i. elim (cases_eq i x) [
-  | inl q ↦
-      let a : low (priced E x p i) ≡ p = ap low (cond-true (eqb i x) (Known p) (E i) (eq-eqb i x q)) in
-      let b = inside_low (E x) p cost in
-      let c = inside_high (E x) p cost in
-      let d = ap (λ (j : ℕ). low (E j)) q in
-      ap (λ (t : Bool). S i && t) (lt-ltb (low (priced E x p i)) (high (E x)) (omega arith) ∙ sym (lt-ltb (low (E i)) (high (E x)) (omega arith)))
-  | inr q ↦ ap (λ (A : Entry). S i && ltb (low A) (high (E x))) (cond-false (eqb i x) (Known p) (E i) (ne_eqb i x q))
-])
+lower_new E x p cost S = fun_ext (λ i. grind (arith, nat_tests, inside_low (E x) p cost, inside_high (E x) p cost))
 
 module _ (m : Meaning) (laws : Laws m) (E : ℕ → Entry) (x p : ℕ) (cost : inside (E x) p ≡ true) where
   -- S without x where x is behind the taken ones of lower lows
@@ -361,10 +270,7 @@ module _ (m : Meaning) (laws : Laws m) (E : ℕ → Entry) (x p : ℕ) (cost : i
   placed T S = cond (behind m.size (priced E x p) x (lower E (high (E x)) T)) (without S x) S
 
   placed_absent : (T S : Elements) → S x ≡ false → placed T S ≡ S
-  placed_absent T S s = elim (cases_Bool (behind m.size (priced E x p) x (lower E (high (E x)) T))) [
-    | inl b ↦ cond-true (behind m.size (priced E x p) x (lower E (high (E x)) T)) (without S x) S b ∙ without_absent S x s
-    | inr b ↦ cond-false (behind m.size (priced E x p) x (lower E (high (E x)) T)) (without S x) S b
-  ]
+  placed_absent T S s = grind (arith, nat_tests, without_absent S x s)
 
   stands : (T K : Elements) → Reached m E T K → Reached m (priced E x p) (placed T (lower E (high (E x)) T)) (placed T (lower E (high (E x)) K))
   stands T K r =
@@ -376,32 +282,27 @@ module _ (m : Meaning) (laws : Laws m) (E : ℕ → Entry) (x p : ℕ) (cost : i
         | inl l ↦
             let w = moves m laws E x p cost l (lower E (high (E x)) T) (lower E (high (E x)) K) low-stage (λ i t. ltb-true (low (E i)) (high (E x)) (and_parts (T i) _ t).1) in
             elim (cases_Bool (behind m.size (priced E x p) x (lower E (high (E x)) T))) [
-              | inl h ↦
-                  subst (λ (A : Elements). Reached m (priced E x p) A (placed T (lower E (high (E x)) K))) (sym (cond-true b (without U x) U h))
-                  (subst (λ (B : Elements). Reached m (priced E x p) (without (lower E (high (E x)) T) x) B) (sym (cond-true b (without V x) V h)) (w.0 h))
-              | inr h ↦
-                  subst (λ (A : Elements). Reached m (priced E x p) A (placed T (lower E (high (E x)) K))) (sym (cond-false b (without U x) U h))
-                  (subst (λ (B : Elements). Reached m (priced E x p) (lower E (high (E x)) T) B) (sym (cond-false b (without V x) V h)) (w.1 h))
+              | inl h ↦ stage_as m (priced E x p) _ _ _ _ (cond-true b (without U x) U h) (cond-true b (without V x) V h) (w.0 h)
+              | inr h ↦ stage_as m (priced E x p) _ _ _ _ (cond-false b (without U x) U h) (cond-false b (without V x) V h) (w.1 h)
             ]
         | inr l ↦
             let same = stage_same m E (priced E x p) (λ i li. cond-false (eqb i x) (Known p) (E i) (ne_eqb i x (λ q. omega arith))) U V low-stage in
             let u : T x ≡ false = none_false (T x) (λ t. let o = stage_below m E T K r x t in omega arith) in
             let v : K x ≡ false = none_false (K x) (λ t. both_ways (T x) u (stage_part m E T K r x t)) in
-            subst (λ (A : Elements). Reached m (priced E x p) A (placed T (lower E (high (E x)) K))) (sym (placed_absent T U (and_left (T x) _ u)))
-            (subst (λ (B : Elements). Reached m (priced E x p) (lower E (high (E x)) T) B) (sym (placed_absent T V (and_left (K x) _ v))) same)
+            stage_as m (priced E x p) _ _ _ _ (placed_absent T U (and_left (T x) _ u)) (placed_absent T V (and_left (K x) _ v)) same
       ]
 
-  standing_is : (F : ℕ → Entry) (h : ℕ) → h ≡ high (E x) → F ≡ priced E x p → (T S : Elements) → standing m.size F x h T S ≡ placed T (lower E (high (E x)) S)
-  standing_is F h top is T S =
+  standing_is : (F : ℕ → Entry) (h : ℕ) → h ≡ high (E x) → F ≡ priced E x p → (n : ℕ) → n ≡ m.size → (T S : Elements)
+      → standing n F x h T S ≡ placed T (lower E (high (E x)) S)
+  standing_is F h top is n size T S =
       let New : ℕ → Entry = priced E x p in
-      ap (λ (A : ℕ → Entry). standing m.size A x h T S) is ∙ (ap (λ (j : ℕ). standing m.size New x j T S) top ∙
+      ap (λ (j : ℕ). standing j F x h T S) size ∙ (ap (λ (A : ℕ → Entry). standing m.size A x h T S) is ∙ (ap (λ (j : ℕ). standing m.size New x j T S) top ∙
       (ap (λ (A : Elements). cond (behind m.size New x A) (without (lower New (high (E x)) S) x) (lower New (high (E x)) S)) (lower_new E x p cost T) ∙
-      ap (λ (B : Elements). cond (behind m.size New x (lower E (high (E x)) T)) (without B x) B) (lower_new E x p cost S)))
+      ap (λ (B : Elements). cond (behind m.size New x (lower E (high (E x)) T)) (without B x) B) (lower_new E x p cost S))))
 
   -- what stays of a stage over E is a stage over the entries F with the price
-  pub stage_goes_back : (F : ℕ → Entry) (h : ℕ) → h ≡ high (E x) → F ≡ priced E x p → (T K T' K' : Elements)
-      → T' ≡ standing m.size F x h T T → K' ≡ standing m.size F x h T K → Reached m E T K → Reached m F T' K'
-  stage_goes_back F h top is T K T' K' t k r =
+  pub stage_goes_back : (F : ℕ → Entry) (h : ℕ) → h ≡ high (E x) → F ≡ priced E x p → (n : ℕ) → n ≡ m.size → (T K T' K' : Elements)
+      → T' ≡ standing n F x h T T → K' ≡ standing n F x h T K → Reached m E T K → Reached m F T' K'
+  stage_goes_back F h top is n size T K T' K' t k r =
       subst (λ (A : ℕ → Entry). Reached m A T' K') (sym is)
-      (subst (λ (A : Elements). Reached m (priced E x p) A K') (sym (t ∙ standing_is F h top is T T))
-      (subst (λ (B : Elements). Reached m (priced E x p) (placed T (lower E (high (E x)) T)) B) (sym (k ∙ standing_is F h top is T K)) (stands T K r)))
+      (stage_as m (priced E x p) _ _ _ _ (t ∙ standing_is F h top is n size T T) (k ∙ standing_is F h top is n size T K) (stands T K r))

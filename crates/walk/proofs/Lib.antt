@@ -1,5 +1,4 @@
 mod Advances
 mod Delays
-mod Scans
+mod Searches
 mod Stages
-mod Turns

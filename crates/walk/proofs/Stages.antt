@@ -1,63 +1,43 @@
 -- The stages of a walk, and what stays of one when a price comes up.
-use Rattle.std.proofs.Common.{◌≡◌, ℕ, suc, ◌+◌, ◌<◌, ◌≤◌, true, false, not, ◌&&◌, ◌||◌, eqb, ltb, leb, sym, refl, ap, ◌∙◌, subst, inl, inr, arith}
-use Rattle.std.proofs.lemmas.Bool.{both_ways, not-true, not_from_false, not_from_true, cond-true, cond-false, cases_Bool, cases_eq, and_parts, and_from, and_left, and_right, or_cases, or_parts, or_from, or_left, or_right, eqb-true, eq-eqb, ne_eqb, leb-true, le-leb, false≢true}
+use Rattle.std.proofs.Common.{◌≡◌, ℕ, suc, ◌+◌, ◌<◌, ◌≤◌, true, false, not, ◌||◌, eqb, leb, sym, refl, ap, ◌∙◌, subst, inl, inr, arith}
+use Rattle.std.proofs.lemmas.Bool.{both_ways, cond-true, cond-false, or_left, eq-eqb, false≢true}
 use Rattle.std.proofs.lemmas.Bool.Decides.{nat_tests}
 use Rattle.entry.specs.Entries.{Entry, low, high}
 use Rattle.matroid.specs.Sets.{Elements, nothing, with, Part, count}
 use Rattle.matroid.specs.Matroids.{Meaning, Laws}
 use Rattle.matroid.specs.Circuits.{Closes, circuit}
-use Rattle.matroid.proofs.Members.{none_false, with_here, with_there, with_cases, with_other, every_true, every_from, every_not, lowest_is}
+use Rattle.matroid.proofs.Members.{none_false, with_there, with_cases, with_other, every_true, every_from, every_not, lowest_is}
 use Rattle.matroid.proofs.Counts.{count_none, count_with}
 use Rattle.matroid.proofs.Circuits.{circuit_inside, circuit_dependent, circuit_is, circuit_unique}
-use Rattle.promise.specs.Walks.{earlier, leads, earliest, topped, onward, walk}
+use Rattle.promise.specs.Walks.{leads, earliest, topped, onward, walk}
 use Rattle.promise.proofs.Orders.{no_later}
 use Rattle.walk.specs.Stages.{Next, Reached, begins, keeps, drops}
-
--- the order on three numbers each goes one way only
-one_way : (a b i c d j : ℕ) → (ltb a c || (eqb a c && (ltb b d || (eqb b d && ltb i j)))) ≡ true → (ltb c a || (eqb c a && (ltb d b || (eqb d b && ltb j i)))) ≡ false
-one_way a b i c d j h = grind (arith, nat_tests)
-
-earlier_low : (a b i c d j : ℕ) → (ltb a c || (eqb a c && (ltb b d || (eqb b d && ltb i j)))) ≡ true → a ≤ c
-earlier_low a b i c d j h = grind (arith, nat_tests)
 
 -- ## The next element
 
 module _ (n : ℕ) (E : ℕ → Entry) (T : Elements) (e : ℕ) where
   pub leads_untaken : leads n E T e ≡ true → T e ≡ false
-  leads_untaken h = not-true (T e) (and_parts (not (T e)) _ h).0
+  leads_untaken h = grind (arith, nat_tests)
 
   pub leads_before : leads n E T e ≡ true → (j : ℕ) → j < n → T j ≡ false → no_later E e j ≡ true
-  leads_before h j l u = elim (or_cases (T j) (no_later E e j) (every_true n (λ j. T j || no_later E e j) (and_parts (not (T e)) _ h).1 j l)) [
-    | inl t ↦ absurd (both_ways (T j) u t)
-    | inr t ↦ t
-  ]
+  leads_before h j l u = grind (arith, nat_tests, every_true n (λ j. T j || no_later E e j))
 
   pub leads_from : T e ≡ false → ((j : ℕ) → j < n → T j ≡ false → no_later E e j ≡ true) → leads n E T e ≡ true
-  leads_from u h = and_from (not (T e)) _ (not_from_false (T e) u) (every_from n (λ j. T j || no_later E e j) (λ j l. elim (cases_Bool (T j)) [
-    | inl t ↦ or_left (T j) (no_later E e j) t
-    | inr t ↦ or_right (T j) (no_later E e j) (h j l t)
-  ]))
+  leads_from u h = grind (arith, nat_tests, every_from n (λ j. T j || no_later E e j) (λ j l. grind (arith, nat_tests, h j l)))
 
   pub leads_earliest : e < n → leads n E T e ≡ true → earliest n E T ≡ e
-  leads_earliest l h = lowest_is n (leads n E T) e l h (λ i k.
-      elim (cases_Bool (T i)) [
-        | inl t ↦ and_left (not (T i)) _ (not_from_true (T i) t)
-        | inr t ↦ and_right (not (T i)) _ (every_not n (λ j. T j || no_later E i j) e l
-            (or_from (T e) (no_later E i e) (leads_untaken h) (or_from (eqb e i) (earlier E i e) (ne_eqb e i (λ q. omega arith))
-            (elim (or_cases (eqb i e) (earlier E e i) (leads_before h i (omega arith) t)) [
-              | inl q ↦ let z = eqb-true i e q in absurd (omega arith)
-              | inr q ↦ one_way (low (E e)) (high (E e)) e (low (E i)) (high (E i)) i q
-            ]))))
-      ])
+  leads_earliest l h =
+      lowest_is n (leads n E T) e l h (λ i k. grind (arith, nat_tests, leads_untaken h, leads_before h i, every_not n (λ j. T j || no_later E i j) e l))
 
 -- what stands no later has a low that is no higher
 pub no_later_low : (E : ℕ → Entry) (i j : ℕ) → no_later E i j ≡ true → low (E i) ≤ low (E j)
-no_later_low E i j h = elim (or_cases (eqb j i) (earlier E i j) h) [
-  | inl q ↦ let z = ap (λ (x : ℕ). low (E x)) (eqb-true j i q) in omega arith
-  | inr q ↦ earlier_low (low (E i)) (high (E i)) i (low (E j)) (high (E j)) j q
-]
+no_later_low E i j h = grind (arith, nat_tests)
 
 -- ## What holds at every stage
+
+-- a stage by sets that are the same
+pub stage_as : (m : Meaning) (E : ℕ → Entry) (S T K L : Elements) → T ≡ S → L ≡ K → Reached m E S K → Reached m E T L
+stage_as m E S T K L t k r = subst (λ (A : Elements). Reached m E A L) (sym t) (subst (λ (B : Elements). Reached m E S B) (sym k) r)
 
 module _ (m : Meaning) (E : ℕ → Entry) where
   pub stage_independent : Laws m → (T K : Elements) → Reached m E T K → m.independent K ≡ true
@@ -67,27 +47,19 @@ module _ (m : Meaning) (E : ℕ → Entry) where
 
   pub stage_below : (T K : Elements) → Reached m E T K → (i : ℕ) → T i ≡ true → i < m.size
   stage_below T K begins i h = absurd (false≢true h)
-  stage_below T K (keeps S L e r x h) i t = elim (with_cases S e i t) [ inl q ↦ let b = x.below in omega arith | inr q ↦ stage_below S L r i q ]
-  stage_below T K (drops S L e r x h z) i t = elim (with_cases S e i t) [ inl q ↦ let b = x.below in omega arith | inr q ↦ stage_below S L r i q ]
+  stage_below T K (keeps S L e r x h) i t = grind (arith, nat_tests, x.below, stage_below S L r i)
+  stage_below T K (drops S L e r x h z) i t = grind (arith, nat_tests, x.below, stage_below S L r i)
 
   -- what is kept is taken
   pub stage_part : (T K : Elements) → Reached m E T K → (i : ℕ) → K i ≡ true → T i ≡ true
   stage_part T K begins i h = h
-  stage_part T K (keeps S L e r x h) i t = elim (with_cases L e i t) [
-    | inl q ↦ or_left (eqb i e) (S i) (eq-eqb i e q)
-    | inr q ↦ with_there S e i (stage_part S L r i q)
-  ]
-  stage_part T K (drops S L e r x h z) i t = with_there S e i (stage_part S L r i t)
+  stage_part T K (keeps S L e r x h) i t = grind (arith, nat_tests, stage_part S L r i)
+  stage_part T K (drops S L e r x h z) i t = grind (arith, nat_tests, stage_part S L r i)
 
   -- what is taken stands no later than what is not
   later : (S : Elements) (e : ℕ) → Next m E S e → ((i j : ℕ) → S i ≡ true → j < m.size → S j ≡ false → low (E i) ≤ low (E j))
       → (i j : ℕ) → with S e i ≡ true → j < m.size → with S e j ≡ false → low (E i) ≤ low (E j)
-  later S e x f i j t l u =
-      let v = (or_parts (eqb j e) (S j) u).1 in
-      elim (with_cases S e i t) [
-        | inl q ↦ let z = ap (λ (y : ℕ). low (E y)) q in let y = no_later_low E e j (leads_before m.size E S e x.leading j l v) in omega arith
-        | inr q ↦ f i j q l v
-      ]
+  later S e x f i j t l u = grind (arith, nat_tests, f i j, leads_before m.size E S e x.leading j l, no_later_low E e j)
 
   pub stage_order : (T K : Elements) → Reached m E T K → (i j : ℕ) → T i ≡ true → j < m.size → T j ≡ false → low (E i) ≤ low (E j)
   stage_order T K begins i j t l u = absurd (false≢true t)
@@ -132,10 +104,7 @@ module _ (m : Meaning) (laws : Laws m) (K M : Elements) (e : ℕ) (c : Closes m 
 -- where L has all of the independent K, the circuit of e over K is the one over L too
 module _ (m : Meaning) (laws : Laws m) (K L : Elements) (e : ℕ) (c : Closes m K e) (larger : Part m.size K L) (free : m.independent L ≡ true) where
   all_in : Part m.size (with K e) (with L e)
-  all_in i li k = elim (with_cases K e i k) [
-    | inl q ↦ subst (λ (j : ℕ). with L e j ≡ true) (sym q) (with_here L e)
-    | inr q ↦ with_there L e i (larger i li q)
-  ]
+  all_in i li k = grind (arith, nat_tests, larger i li)
 
   pub more_dependent : m.independent (with L e) ≡ false
   more_dependent = none_false (m.independent (with L e)) (λ t. both_ways (m.independent (with K e)) c.dependent (laws.part (with K e) (with L e) all_in t))
@@ -149,20 +118,10 @@ abbrev pub Tops : ℕ → (ℕ → Entry) → Elements → ℕ → Type 0
 Tops n E C e = (i : ℕ) → i < n → C i ≡ true → (i ≡ e → ⊥) → high (E i) ≤ low (E e)
 
 pub tops_from : (n : ℕ) (E : ℕ → Entry) (C : Elements) (e : ℕ) → topped n E C e ≡ true → Tops n E C e
-tops_from n E C e z i li c q = elim (or_cases (not (C i)) _ (every_true n (λ y. not (C y) || (eqb y e || leb (high (E y)) (low (E e)))) z i li)) [
-  | inl w ↦ absurd (both_ways (C i) (not-true (C i) w) c)
-  | inr w ↦ elim (or_cases (eqb i e) _ w) [ inl v ↦ absurd (q (eqb-true i e v)) | inr v ↦ leb-true (high (E i)) (low (E e)) v ]
-]
+tops_from n E C e z i li c q = grind (arith, nat_tests, every_true n (λ y. not (C y) || (eqb y e || leb (high (E y)) (low (E e)))) z i li)
 
 pub topped_from : (n : ℕ) (E : ℕ → Entry) (C : Elements) (e : ℕ) → Tops n E C e → topped n E C e ≡ true
-topped_from n E C e h = every_from n (λ y. not (C y) || (eqb y e || leb (high (E y)) (low (E e)))) (λ i li.
-    elim (cases_Bool (C i)) [
-      | inl c ↦ or_right (not (C i)) _ (elim (cases_eq i e) [
-        | inl q ↦ or_left (eqb i e) _ (eq-eqb i e q)
-        | inr q ↦ or_right (eqb i e) _ (le-leb (high (E i)) (low (E e)) (h i li c q))
-      ])
-      | inr c ↦ or_left (not (C i)) _ (not_from_false (C i) c)
-    ])
+topped_from n E C e h = every_from n (λ y. not (C y) || (eqb y e || leb (high (E y)) (low (E e)))) (λ i li. grind (arith, nat_tests, h i li))
 
 -- ## What was dropped
 

@@ -1,12 +1,13 @@
 -- The stages of a walk: what is taken and what is kept after some of its turns. Assumes nothing.
 --     Reached m E T K     the walk over E comes to a stage at which T is taken and K of it kept
+--     Stops m E T K w     at that stage nothing more is taken, and the walk ends as w says
 --     standing n E x h T S   what stays of S, a part of the taken T, when x of the high h comes to have the entry that E has
 use Rattle.std.specs.Prelude.{◌≡◌, ℕ, ◌<◌, Bool, true, false, cond, not, ◌&&◌, ◌==◌, nat_lt}
 use Rattle.entry.specs.Entries.{Entry, low}
 use Rattle.matroid.specs.Sets.{Elements, every, nothing, with, without}
 use Rattle.matroid.specs.Matroids.{Meaning}
 use Rattle.matroid.specs.Circuits.{circuit}
-use Rattle.promise.specs.Walks.{earlier, leads, topped}
+use Rattle.promise.specs.Walks.{Ended, settled, open_at, earlier, leads, topped}
 
 -- e is the earliest element that is not taken
 pub record Next (m : Meaning) (E : ℕ → Entry) (T : Elements) (e : ℕ) : Type 0 where
@@ -19,6 +20,11 @@ pub data Reached (m : Meaning) (E : ℕ → Entry) : Elements → Elements → T
   keeps : (T K : Elements) (e : ℕ) → Reached m E T K → Next m E T e → m.independent (with K e) ≡ true → Reached m E (with T e) (with K e)
   drops : (T K : Elements) (e : ℕ) → Reached m E T K → Next m E T e → m.independent (with K e) ≡ false
       → topped m.size E (circuit m K e) e ≡ true → Reached m E (with T e) K
+
+-- all are taken, or the next to be taken closes a circuit that it does not top
+pub data Stops (m : Meaning) (E : ℕ → Entry) (T K : Elements) : Ended → Type 0 where
+  settles : ((i : ℕ) → i < m.size → T i ≡ true) → Stops m E T K (settled K)
+  opens : (e : ℕ) → Next m E T e → m.independent (with K e) ≡ false → topped m.size E (circuit m K e) e ≡ false → Stops m E T K (open_at (circuit m K e))
 
 -- the members of S whose low is below h
 abbrev pub lower : (ℕ → Entry) → ℕ → Elements → Elements

@@ -3,7 +3,8 @@
 --     Along m E p      the walk over E comes to the progress p
 --     Askable m K e    the circuit that e closes over K may be asked for
 --     Closed m K e o   o has the marks of that circuit, if there is one
-use Rattle.std.specs.Prelude.{◌≡◌, ℕ, ◌<◌, ◌≤◌, Bool, true, false, List, Some, None, Option}
+--     found n k        the number k where it is below n, and else none
+use Rattle.std.specs.Prelude.{◌≡◌, ℕ, ◌<◌, ◌≤◌, Bool, true, false, List, Some, None, Option, cond, nat_lt}
 use Rattle.entry.specs.Entries.{Entry}
 use Rattle.matroid.specs.Sets.{Elements, with}
 use Rattle.matroid.specs.Matroids.{Meaning}
@@ -41,3 +42,7 @@ pub record Askable (m : Meaning) (K : Elements) (e : ℕ) : Type 0 where
 abbrev pub Closed : Meaning → Elements → ℕ → Option (List Bool) → Type 0
 Closed m K e None = m.independent (with K e) ≡ true
 Closed m K e (Some marks) = (m.independent (with K e) ≡ false) × (marked marks ≡ circuit m K e)
+
+-- a search below n answers n for none
+abbrev pub found : ℕ → ℕ → Option ℕ
+found n k = cond (nat_lt k n) (Some k) None

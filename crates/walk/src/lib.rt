@@ -3,7 +3,7 @@
 
 mod cases;
 mod choices;
-mod ends;
+mod ground;
 mod progress;
 mod walks;
 
@@ -13,7 +13,7 @@ use element::MARKS;
 pub use progress::Progress;
 pub use walks::walk_through;
 
-// How a walk ends.
+// How a walk ends: an enum of its own, since neither end is a failure.
 #[derive(Clone, Copy)]
 pub enum Walk {
     // Every element is taken: the marked ones are kept.

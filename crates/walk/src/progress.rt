@@ -7,12 +7,11 @@ ghost use Rattle.matroid.specs.Sets.{nothing};
 ghost use Rattle.matroid.specs.Questions.{marked};
 ghost use Rattle.promise.specs.Surveys.{priced};
 ghost use Rattle.promise.specs.Walks.{walk};
-ghost use Rattle.walk.specs.Stages.{Reached, behind, lower, overtaken, standing};
+ghost use Rattle.walk.specs.Stages.{Reached, Stops, standing};
 ghost use Rattle.walk.specs.Walked.{Along, Askable, Closed, ended, kept_of, taken_of};
 
 use crate::Walk;
-use crate::ends::low_of;
-use crate::walks::{goes_before, is_topped, next_element};
+use crate::ground::Ground;
 use element::{Element, MARKS, Price};
 use entry::Entry;
 use matroid::{Closing, Matroid};
@@ -34,10 +33,8 @@ fn closed_if_asked<M: Matroid>(
 {
     let mut marks = [false; MARKS];
     match matroid.circuit(kept, e, &mut marks) {
-        Ok(closing) => match closing {
-            Closing::Independent => None,
-            Closing::Circuit => Some(marks),
-        },
+        Ok(Closing::Circuit) => Some(marks),
+        Ok(Closing::Independent) => None,
         Err(_) => None,
     }
 }
@@ -48,55 +45,24 @@ fn go_on<M: Matroid>(
     matroid: &M,
     entries: &[Entry; MARKS],
     taken: &mut [bool; MARKS],
-    chosen: &mut [bool; MARKS],
+    kept: &mut [bool; MARKS],
 ) -> Walk
-    ensures walk { Reached (M.Matroid.meaning matroid.now) (sheet entries.now) (marked taken.old) (marked chosen.old) → ended result ≡ walk (M.Matroid.meaning matroid.now) (sheet entries.now) }
-    ensures stage { Reached (M.Matroid.meaning matroid.now) (sheet entries.now) (marked taken.old) (marked chosen.old) → Reached (M.Matroid.meaning matroid.now) (sheet entries.now) (marked taken.new) (marked chosen.new) }
+    ensures stage { Reached (M.Matroid.meaning matroid.now) (sheet entries.now) (marked taken.old) (marked kept.old) → Reached (M.Matroid.meaning matroid.now) (sheet entries.now) (marked taken.new) (marked kept.new) }
+    ensures stops { Reached (M.Matroid.meaning matroid.now) (sheet entries.now) (marked taken.old) (marked kept.old) → Stops (M.Matroid.meaning matroid.now) (sheet entries.now) (marked taken.new) (marked kept.new) (ended result) }
 {
-    let n = matroid.size();
-    loop {
-        let e = next_element(entries, n, taken);
-        if e == n {
-            return Walk::Settled(*chosen);
-        }
-        match closed_if_asked(matroid, chosen, e) {
-            None => chosen[e as usize] = true,
-            Some(circuit) => {
-                if !is_topped(entries, n, &circuit, e) {
-                    return Walk::Open(circuit);
-                }
-            }
+    let ground = Ground {
+        entries,
+        n: matroid.size(),
+    };
+    while let Some(e) = ground.next(taken) {
+        match closed_if_asked(matroid, kept, e) {
+            None => kept[e as usize] = true,
+            Some(circuit) if ground.is_topped(&circuit, e) => {}
+            Some(circuit) => return Walk::Open(circuit),
         }
         taken[e as usize] = true;
     }
-}
-
-// Takes the marks off all elements but those whose low is below the given one.
-fn keep_lower(marks: &mut [bool; MARKS], entries: &[Entry; MARKS], high: Price)
-    ensures { marked marks.new ≡ lower (sheet entries.now) high (marked marks.old) }
-{
-    for i in 0..MARKS {
-        marks[i] = marks[i] && low_of(entries, i as Element) < high;
-    }
-}
-
-// Whether i is another mark than x, and x goes before it.
-fn is_overtaken(entries: &[Entry; MARKS], marks: &[bool; MARKS], x: Element, i: Element) -> bool
-    ensures { result ≡ overtaken (sheet entries.now) x (marked marks.now) i }
-{
-    marks[i as usize] && i != x && goes_before(entries, x, i)
-}
-
-// Whether x goes before none of the other marks below n.
-fn is_behind(entries: &[Entry; MARKS], n: Element, marks: &[bool; MARKS], x: Element) -> bool
-    ensures { result ≡ behind n (sheet entries.now) x (marked marks.now) }
-{
-    for i in 0..n {
-        if is_overtaken(entries, marks, x, i) {
-            return false;
-        }
-    }
-    true
+    Walk::Settled(*kept)
 }
 
 impl Progress {
@@ -116,6 +82,7 @@ impl Progress {
     pub fn finish<M: Matroid>(&mut self, matroid: &M, entries: &[Entry; MARKS]) -> Walk
         ensures walk { Along (M.Matroid.meaning matroid.now) (sheet entries.now) self.old → ended result ≡ walk (M.Matroid.meaning matroid.now) (sheet entries.now) }
         ensures along { Along (M.Matroid.meaning matroid.now) (sheet entries.now) self.old → Along (M.Matroid.meaning matroid.now) (sheet entries.now) self.new }
+        ensures stops { Along (M.Matroid.meaning matroid.now) (sheet entries.now) self.old → Stops (M.Matroid.meaning matroid.now) (sheet entries.now) (taken_of self.new) (kept_of self.new) (ended result) }
     {
         go_on(matroid, entries, &mut self.taken, &mut self.kept)
     }
@@ -127,9 +94,10 @@ impl Progress {
         ensures kept { kept_of self.new ≡ standing n (sheet entries.now) x high (taken_of self.old) (kept_of self.old) }
         ensures along { (m : Meaning) (E : ℕ → AnEntry) (p : ℕ) → Laws m → n ≡ m.size → inside (E x) p ≡ true → high ≡ top (E x) → sheet entries.now ≡ priced E x p → Along m E self.old → Along m (sheet entries.now) self.new }
     {
-        keep_lower(&mut self.taken, entries, high);
-        keep_lower(&mut self.kept, entries, high);
-        if is_behind(entries, n, &self.taken, x) {
+        let ground = Ground { entries, n };
+        ground.keep_lower(&mut self.taken, high);
+        ground.keep_lower(&mut self.kept, high);
+        if ground.is_behind(&self.taken, x) {
             self.taken[x as usize] = false;
             self.kept[x as usize] = false;
         }

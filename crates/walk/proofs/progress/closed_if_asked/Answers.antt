@@ -16,13 +16,13 @@ returns-in-Err g c = λ a.
     absurd (asked_answers _ c.args.e c.args.kept.now (replicate all_marks false) c.told-kept (length-replicate all_marks false) (asked _ _ _ a) _
     c.in-Err.ensures.answer)
 
-pub returns-in-Independent : goal.returns-in-Independent
-returns-in-Independent g c = λ a.
+pub returns-in-Ok-Independent : goal.returns-in-Ok-Independent
+returns-in-Ok-Independent g c = λ a.
     asked_independent _ c.args.e c.args.kept.now (replicate all_marks false) c.told-kept (length-replicate all_marks false) (asked _ _ _ a)
-    (sym (ap Ok c.in-Independent.is) ∙ c.in-Ok.ensures.answer)
+    (sym (ap Ok c.in-Ok-Independent.field-0-is) ∙ c.in-Ok-Independent.ensures.answer)
 
-pub returns-in-Circuit : goal.returns-in-Circuit
-returns-in-Circuit g c = λ a.
+pub returns-in-Ok-Circuit : goal.returns-in-Ok-Circuit
+returns-in-Ok-Circuit g c = λ a.
     let r = asked_circuit _ c.args.e c.args.kept.now (replicate all_marks false) c.told-kept (length-replicate all_marks false) (asked _ _ _ a)
-    (omega arith) (sym (ap Ok c.in-Circuit.is) ∙ c.in-Ok.ensures.answer) c.circuit.new.marks c.in-Ok.ensures.marks in
+    (omega arith) (sym (ap Ok c.in-Ok-Circuit.field-0-is) ∙ c.in-Ok-Circuit.ensures.answer) c.circuit.new.marks c.in-Ok-Circuit.ensures.marks in
     (r.0, fun_ext r.1)

@@ -1,64 +1,44 @@
-use Rattle.std.proofs.Common.{◌≡◌, Bool, true, List, length, set, sym, ◌∙◌, subst, arith, length-set}
+use Rattle.std.proofs.Common.{◌≡◌, ◌∙◌, Bool, true, List, length, set, subst, sym, arith, length-set}
 use Rattle.element.specs.Marks.{all_marks}
 use Rattle.entry.specs.Held.{sheet}
 use Rattle.matroid.specs.Questions.{marked}
-use Rattle.walk.specs.Stages.{Reached}
-use Rattle.walk.proofs.Advances.{fewer_left, turn_settles, turn_askable, turn_keeps, turn_drops, turn_opens}
+use Rattle.walk.specs.Stages.{Reached, settles}
+use Rattle.walk.proofs.Advances.{turn_none, turn_fewer, turn}
 use Rattle.walk.proofs.progress.go_on.Goals as goal
-use Rattle.walk.proofs.progress.go_on.Goals.{in-None, in-Some+else-not-is_topped}
+use Rattle.walk.proofs.progress.go_on.Goals.{in-None, in-Some-closed_if_asked}
 
-pub returns-then-e-n : goal.returns-then-e-n
-returns-then-e-n g c = record {
-  walk = λ r.
-      turn_settles _ (g.met.M.Matroid.laws c.args.matroid.now) (sheet c.args.entries.now) _ c.size-n.ensures (omega arith) c.loop-n.taken c.loop-n.chosen
-      c.loop-n.invariant.0 c.loop-n.invariant.1 (c.loop-n.invariant.2 r) _ c.next_element-e.ensures c.if-e-n.true;
-  stage = c.loop-n.invariant.2;
-}
+pub returns-clause-stops : goal.returns-clause-stops
+returns-clause-stops g c = λ r. settles (turn_none (g.M.Matroid.meaning c.args.matroid.now) (sheet c.args.entries.now) _ c.size.ensures (omega arith) c.loop-e.taken c.loop-e.invariant.0 _ c.next.ensures c.in_default.is)
 
-pub returns-then-not-is_topped : goal.returns-then-not-is_topped
-returns-then-not-is_topped g c = record {
-  walk = λ r.
-      let m = g.M.Matroid.meaning c.args.matroid.now in
-      let laws = g.met.M.Matroid.laws c.args.matroid.now in
-      let E = sheet c.args.entries.now in
-      let a = turn_askable m laws E _ c.size-n.ensures (omega arith) c.loop-n.taken c.loop-n.chosen
-      c.loop-n.invariant.0 c.loop-n.invariant.1 (c.loop-n.invariant.2 r) _ c.next_element-e.ensures c.if-e-n.false in
-      let h = c.in-Some.ensures a in
-      turn_opens m laws E _ c.size-n.ensures (omega arith) c.loop-n.taken c.loop-n.chosen
-      c.loop-n.invariant.0 c.loop-n.invariant.1 (c.loop-n.invariant.2 r) _ c.next_element-e.ensures c.if-e-n.false _ h.0 h.1 (sym c.if-not-is_topped.ensures);
-  stage = c.loop-n.invariant.2;
-}
+pub returns-in-Some-2-clause-stops : goal.returns-in-Some-2-clause-stops
+returns-in-Some-2-clause-stops g c = λ r.
+    let t = turn _ (sheet c.args.entries.now) _ c.size.ensures (omega arith) c.loop-e.taken c.loop-e.invariant.0 _ c.next.ensures c.in-Some.e c.in-Some.is
+    (g.met.M.Matroid.laws c.args.matroid.now) c.loop-e.kept c.loop-e.invariant.1 (c.loop-e.invariant.2 r) in
+    let h = c.in-Some-closed_if_asked.ensures t.askable in
+    t.opens _ h.0 h.1 c.if-is_topped.ensures
 
-pub loop-n-smaller : goal.loop-n-smaller
-loop-n-smaller g c =
-    fewer_left _ (sheet c.args.entries.now) c.loop-n.taken _ c.loop-n.invariant.0 (omega arith) c.next_element-e.ensures c.if-e-n.false
+pub loop-e-smaller : goal.loop-e-smaller
+loop-e-smaller g c = turn_fewer (g.M.Matroid.meaning c.args.matroid.now) (sheet c.args.entries.now) _ c.size.ensures (omega arith) c.loop-e.taken c.loop-e.invariant.0 _ c.next.ensures c.in-Some.e c.in-Some.is
 
-pub loop-n-preserved : goal.loop-n-preserved
-loop-n-preserved g c =
+pub loop-e-preserved : goal.loop-e-preserved
+loop-e-preserved g c =
     let m = g.M.Matroid.meaning c.args.matroid.now in
-    let laws = g.met.M.Matroid.laws c.args.matroid.now in
     let E = sheet c.args.entries.now in
-    let U : List Bool → Type 0 = λ chosen.
-    (length (set c.loop-n.taken c.next_element-e.result true) ≡ all_marks) × (length chosen ≡ all_marks)
-    × (Reached m E (marked c.args.taken.now) (marked c.args.chosen.now) → Reached m E (marked (set c.loop-n.taken c.next_element-e.result true)) (marked chosen)) in
+    let taken : List Bool = set c.loop-e.taken c.in-Some.e true in
+    let turn_at = λ (r : Reached m E (marked c.args.taken.now) (marked c.args.kept.now)).
+    turn _ (sheet c.args.entries.now) _ c.size.ensures (omega arith) c.loop-e.taken c.loop-e.invariant.0 _ c.next.ensures c.in-Some.e c.in-Some.is
+    (g.met.M.Matroid.laws c.args.matroid.now) c.loop-e.kept c.loop-e.invariant.1 (c.loop-e.invariant.2 r) in
+    let U : List Bool → Type 0 = λ kept.
+    (length taken ≡ all_marks) × (length kept ≡ all_marks) × (Reached m E (marked c.args.taken.now) (marked c.args.kept.now) → Reached m E (marked taken) (marked kept)) in
     elim c.match-closed_if_asked.branch [
-      | in-None w ↦ subst U (sym w.chosen-is) (
-        length-set _ _ _ ∙ c.loop-n.invariant.0,
-        length-set _ _ _ ∙ c.loop-n.invariant.1,
-        λ r.
-            let a = turn_askable m laws E _ c.size-n.ensures (omega arith) c.loop-n.taken c.loop-n.chosen
-            c.loop-n.invariant.0 c.loop-n.invariant.1 (c.loop-n.invariant.2 r) _ c.next_element-e.ensures c.if-e-n.false in
-            turn_keeps m laws E _ c.size-n.ensures (omega arith) c.loop-n.taken c.loop-n.chosen
-            c.loop-n.invariant.0 c.loop-n.invariant.1 (c.loop-n.invariant.2 r) _ c.next_element-e.ensures c.if-e-n.false (w.in-None.ensures a),
+      | in-None w ↦ subst U (sym w.kept-is) (
+        length-set _ _ _ ∙ c.loop-e.invariant.0,
+        length-set _ _ _ ∙ c.loop-e.invariant.1,
+        λ r. let t = turn_at r in t.keeps (w.in-None.ensures t.askable),
       )
-      | in-Some+else-not-is_topped w ↦ subst U (sym w.chosen-is) (
-        length-set _ _ _ ∙ c.loop-n.invariant.0,
-        c.loop-n.invariant.1,
-        λ r.
-            let a = turn_askable m laws E _ c.size-n.ensures (omega arith) c.loop-n.taken c.loop-n.chosen
-            c.loop-n.invariant.0 c.loop-n.invariant.1 (c.loop-n.invariant.2 r) _ c.next_element-e.ensures c.if-e-n.false in
-            let h = w.in-Some.ensures a in
-            turn_drops m laws E _ c.size-n.ensures (omega arith) c.loop-n.taken c.loop-n.chosen
-            c.loop-n.invariant.0 c.loop-n.invariant.1 (c.loop-n.invariant.2 r) _ c.next_element-e.ensures c.if-e-n.false _ h.0 h.1 (sym w.if-not-is_topped.ensures),
+      | in-Some-closed_if_asked w ↦ subst U (sym w.kept-is) (
+        length-set _ _ _ ∙ c.loop-e.invariant.0,
+        c.loop-e.invariant.1,
+        λ r. let t = turn_at r in let h = w.in-Some-closed_if_asked.ensures t.askable in t.drops _ h.0 h.1 w.if-is_topped.ensures,
       )
     ]

@@ -6,11 +6,11 @@ use Rattle.matroid.specs.Questions.{marked}
 use Rattle.walk.specs.Stages.{Reached}
 use Rattle.walk.proofs.progress.go_on.Given as goal
 
-abbrev pub invariant-loop-n : goal.invariant-loop-n
-invariant-loop-n g l =
-    (length l.taken ≡ all_marks) × (length l.chosen ≡ all_marks)
-    × (Reached (g.M.Matroid.meaning l.matroid) (sheet l.entries) (marked l.initial.taken) (marked l.initial.chosen)
-    → Reached (g.M.Matroid.meaning l.matroid) (sheet l.entries) (marked l.taken) (marked l.chosen))
+abbrev pub invariant-loop-e : goal.invariant-loop-e
+invariant-loop-e g l =
+    (length l.taken ≡ all_marks) × (length l.kept ≡ all_marks)
+    × (Reached (g.M.Matroid.meaning l.matroid) (sheet l.entries) (marked l.initial.taken) (marked l.initial.kept)
+    → Reached (g.M.Matroid.meaning l.matroid) (sheet l.entries) (marked l.taken) (marked l.kept))
 
-abbrev pub decreases-loop-n : goal.decreases-loop-n
-decreases-loop-n g l = l.n - count l.n (marked l.taken)
+abbrev pub decreases-loop-e : goal.decreases-loop-e
+decreases-loop-e g l = (g.M.Matroid.meaning l.matroid).size - count (g.M.Matroid.meaning l.matroid).size (marked l.taken)
