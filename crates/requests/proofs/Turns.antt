@@ -1,6 +1,6 @@
 -- A list of requests, one after another. Assumes nothing.
-use Rattle.std.proofs.Common.{◌≡◌, ℕ, zero, suc, ◌+◌, ◌<◌, Bool, List, [], ◌∷◌, ◌++◌, map, length, get_or, take, drop, set, Some, Ok, Result, sym, refl, ap, ◌∙◌, subst, arith, length-set}
-use Rattle.std.proofs.lemmas.List.{take_all, take_more_set, map_more, map_push, get_or-set_same, drop-set-lt}
+use Rattle.std.proofs.Common.{◌≡◌, ℕ, zero, suc, ◌+◌, ◌<◌, Bool, List, [], ◌∷◌, ◌++◌, map, length, get_or, take, drop, set, Some, Ok, Result, sym, refl, ap, ◌∙◌, arith, length-set}
+use Rattle.std.proofs.lemmas.List.{take_more_set, map_more, map_push, get_or-set_same, drop-set-lt}
 use Rattle.std.proofs.lemmas.Option.{slice_get-get_or}
 use Rattle.std.specs.List.{slice_get}
 use Rattle.fault.specs.Refusals.{Refusal}
@@ -10,7 +10,7 @@ use Rattle.promise.specs.Surveys.{State}
 use Rattle.promise.specs.Calls.{Call, did, after}
 use Rattle.promise.specs.Replies.{spent_call, spent_calls}
 use Rattle.requests.specs.declared.carrying.Request.{Request}
-use Rattle.requests.specs.Requests.{call_of, calls_of, reply_to, LastReply}
+use Rattle.requests.specs.Requests.{call_of, calls_of, reply_to}
 
 -- the first i of the requests qs are carried out: t is the survey then, rs are the requests, and r is the last answer
 pub record Carried {X : Type 0} (meaning : X → Supply) (keeps : X → ℕ → Bool) (origin : X → ℕ → ℕ) (m : Meaning) (s : State) (qs : List (Request X)) (i : ℕ) (t : State) (rs : List (Request X)) (r : Result (Unit {0}) Refusal) : Type 0 where
@@ -52,16 +52,6 @@ module _ {X : Type 0} (meaning : X → Supply) (keeps : X → ℕ → Bool) (ori
   abbrev call : Request X → Call
   call = call_of meaning keeps
 
-  pub carried_none : (n : ℕ) → n ≡ 0 → Carried meaning keeps origin m s qs n s qs (Ok tt)
-  carried_none n e = subst (λ (i : ℕ). Carried meaning keeps origin m s qs i s qs (Ok tt)) (sym e) (record {
-    survey = refl;
-    same = refl;
-    done = refl;
-    left = refl;
-    none = λ z. refl;
-    last = λ k q q' z a b. absurd (omega arith);
-  })
-
   -- one more request, q, which is q' afterwards
   pub carried_more : (i : ℕ) (t t' : State) (rs : List (Request X)) (r r' : Result (Unit {0}) Refusal) (q q' : Request X)
       → Carried meaning keeps origin m s qs i t rs r → i < length rs → slice_get rs i ≡ Some q
@@ -97,18 +87,3 @@ module _ {X : Type 0} (meaning : X → Supply) (keeps : X → ℕ → Bool) (ori
     where
       some_same : {A : Type 0} {x y : A} → Some x ≡ Some y → x ≡ y
       some_same h = cc
-
-  -- all of them
-  module _ (i : ℕ) (t : State) (rs : List (Request X)) (r : Result (Unit {0}) Refusal) (c : Carried meaning keeps origin m s qs i t rs r) (e : i ≡ length qs) where
-    whole : take i qs ≡ qs
-    whole = take_all i qs (omega arith)
-
-    pub carried_survey : t ≡ after m s (calls_of meaning keeps qs)
-    carried_survey = c.survey ∙ ap (λ xs. after m s (calls_of meaning keeps xs)) whole
-
-    pub carried_requests : calls_of meaning keeps rs ≡ spent_calls m s (calls_of meaning keeps qs)
-    carried_requests =
-        ap (calls_of meaning keeps) (sym (take_all i rs (omega (arith, c.same)))) ∙ (c.done ∙ ap (λ xs. spent_calls m s (calls_of meaning keeps xs)) whole)
-
-    pub carried_answer : LastReply meaning keeps origin m s qs rs r
-    carried_answer = record { none = λ z. c.none (omega arith); last = λ k q q' z a b. c.last k q q' (omega arith) a b }

@@ -36,10 +36,7 @@ pub fn carry_out<M: Matroid + Drop, S: Source + Drop>(
     ensures answer { told (λ x. x) result ≡ reply_to S.Source.meaning S.Source.keeps S.Source.origin (M.Matroid.meaning survey.old.matroid) (state survey.old.tables) request.old request.new }
 {
     match request {
-        Request::Step(source) => match survey.step(source) {
-            Ok(_) => Ok(()),
-            Err(fault) => Err(fault),
-        },
+        Request::Step(source) => survey.step(source).map(|_| ()),
         Request::Run(source) => survey.run(source),
         Request::Note(element, price) => survey.note(*element, *price),
         Request::Report(marks) => survey.report(marks),

@@ -43,17 +43,12 @@ pub fn conduct<M: Matroid + Drop, S: Source + Drop>(
     ensures reported { IfOk result (λ a. Reported (M.Matroid.meaning matroid) (listed (M.Matroid.meaning matroid).size entries.now) (calls_of S.Source.meaning S.Source.keeps requests.old) (told (λ x. x) a.report) marks.new) }
     ensures promise { Promise (M.Matroid.meaning matroid) (listed (M.Matroid.meaning matroid).size entries.now) (calls_of S.Source.meaning S.Source.keeps requests.old) }
 {
-    match Survey::new(heap, matroid, entries) {
-        Ok(fresh) => {
-            let mut survey = fresh;
-            let answer = carry_out_all(&mut survey, requests);
-            let report = survey.report(marks);
-            Ok(Account {
-                survey,
-                answer,
-                report,
-            })
-        }
-        Err(fault) => Err(fault),
-    }
+    let mut survey = Survey::new(heap, matroid, entries)?;
+    let answer = carry_out_all(&mut survey, requests);
+    let report = survey.report(marks);
+    Ok(Account {
+        survey,
+        answer,
+        report,
+    })
 }

@@ -23,8 +23,8 @@ pub fn carry_out_all<M: Matroid + Drop, S: Source + Drop>(
     ensures answer { LastReply S.Source.meaning S.Source.keeps S.Source.origin (M.Matroid.meaning survey.old.matroid) (state survey.old.tables) requests.old requests.new (told (λ x. x) result) }
 {
     let mut answer = Ok(());
-    for i in 0..requests.len() {
-        answer = carry_out(survey, &mut requests[i]);
+    for request in requests.iter_mut() {
+        answer = carry_out(survey, request);
     }
     answer
 }

@@ -1,5 +1,5 @@
 -- A price in the tables. Assumes nothing.
-use Rattle.std.proofs.Common.{◌≡◌, ℕ, zero, suc, ◌+◌, ◌<◌, ◌≤◌, Bool, true, false, cond, eqb, List, [], ◌∷◌, length, get_or, set, sym, refl, ap, ◌∙◌, subst, ⊎_elim, arith}
+use Rattle.std.proofs.Common.{◌≡◌, ℕ, zero, suc, ◌+◌, ◌<◌, ◌≤◌, Bool, true, false, cond, eqb, List, [], ◌∷◌, length, get_or, set, Some, Ok, Option, sym, refl, ap, ◌∙◌, subst, ⊎_elim, arith}
 use mathlib.Core.Path.{fun_ext}
 use Rattle.std.proofs.lemmas.Bool.{cases_eq, cond-true, cond-false, eq-eqb, ne_eqb, false≢true}
 use Rattle.std.proofs.lemmas.List.{get_or-set_same, get_or-set_other}
@@ -7,7 +7,10 @@ use Rattle.entry.specs.declared.Entry.{Entry as Value}
 use Rattle.entry.specs.declared.Entry.TheVariants.{Known as KnownValue}
 use Rattle.entry.specs.Entries.{Entry, Known, Range, known, inside}
 use Rattle.entry.specs.Held.{held, sheet}
-use Rattle.promise.specs.Surveys.{priced}
+use Rattle.promise.specs.Surveys.{Outcome, Source, State, after_price, line, outside, paid, paid_for, priced, tried}
+use Rattle.promise.specs.Replies.{step_reply}
+use Rattle.source.specs.Supplies.{Verdict, refused, given}
+use Rattle.element.specs.declared.Line.{Line}
 use Rattle.survey.specs.Knowns.{knowns}
 
 inside_unknown : (x : Entry) (p : ℕ) → inside x p ≡ true → known x ≡ false
@@ -52,3 +55,23 @@ module _ (es : List Value) (u e p : ℕ) (r : u ≤ knowns es) (l : e < length e
 
   pub room_kept : u + 1 ≤ knowns (set es e (KnownValue p))
   room_kept = omega (arith, knowns_set es e p l (inside_unknown (sheet es e) p h))
+
+-- ## A price call that pays
+
+pub record Pays (s t : State) (e p : ℕ) : Type 0 where
+  pub inside : inside (s.entries e) p ≡ true
+  pub entries : t.entries ≡ priced s.entries e p
+
+module _ (s : State) (σ : Source) (e : ℕ) (q : Option ℕ) (depth : ℕ) (origin : ℕ → ℕ) (l : Line) where
+  abbrev by_place : ℕ → Bool → Outcome
+  by_place p b = cond b (record { answer = paid e p; survey = paid_for s e p q; source = after_price σ e }) (record { answer = outside e; survey = s; source = after_price σ e })
+
+  place_pays : (p : ℕ) (b : Bool) → inside (s.entries e) p ≡ b → Ok (Some l) ≡ step_reply depth origin (by_place p b).answer → Pays s (by_place p b).survey e l.price
+  place_pays p true i h =
+      let same : l ≡ line e p = cc in
+      subst (λ (k : Line). Pays s (paid_for s e p q) e k.price) (sym same) (record { inside = i; entries = refl })
+  place_pays p false i h = let z : ◌≡◌ {A = ℕ} 0 1 = cc in absurd (omega arith)
+
+  pub paid_pays : (v : Verdict) → Ok (Some l) ≡ step_reply depth origin (tried s σ e q v).answer → Pays s (tried s σ e q v).survey e l.price
+  paid_pays (refused c) h = let z : ◌≡◌ {A = ℕ} 0 1 = cc in absurd (omega arith)
+  paid_pays (given p) h = place_pays p (inside (s.entries e) p) refl h

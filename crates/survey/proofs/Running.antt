@@ -1,5 +1,5 @@
 -- A run, one step after another. Assumes nothing.
-use Rattle.std.proofs.Common.{◌≡◌, ℕ, zero, suc, ◌<◌, ◌≤◌, List, get_or, Some, None, Ok, Err, sym, refl, ap, ◌∙◌, subst, arith}
+use Rattle.std.proofs.Common.{◌≡◌, ℕ, zero, suc, ◌<◌, ◌≤◌, List, get_or, Some, None, Ok, Err, Option, Result, sym, refl, ap, ◌∙◌, subst, arith}
 use Rattle.element.specs.declared.Line.{Line}
 use Rattle.fault.specs.Refusals.{Refusal}
 use Rattle.entry.specs.declared.Entry.{Entry as Value}
@@ -63,49 +63,62 @@ pub record Runs (m : Meaning) (whole : Outcome) (s : State) (σ : Source) : Type
 pub runs_start : (m : Meaning) (laws : Laws m) (s : State) (σ : Source) → Runs m (run m s σ) s σ
 runs_start m laws s σ = record { left = suc m.size; enough = payable_most m laws s; is = refl }
 
--- one more step of a run, whose answer is r, and after which there are t and τ
-module _ (m : Meaning) (laws : Laws m) (whole : Outcome) (s : State) (proper : (i : ℕ) → Proper (s.entries i)) (σ : Source) (t : State) (τ : Source)
-    (survey : t ≡ (step m s σ).survey) (source : τ ≡ (step m s σ).source) (d : ℕ) (o : ℕ → ℕ) (runs : Runs m whole s σ) where
-  pub runs_nearer : (l : Line) → Ok (Some l) ≡ step_reply d o (step m s σ).answer → payable m.size t < payable m.size s
-  runs_nearer l h =
-      let p = paid_reply d o (step m s σ).answer l h in
-      subst (λ (u : State). payable m.size u < payable m.size s) (sym survey) (pays_one m laws s proper σ p.0 p.1 p.2)
+-- one more step of a run, by a matroid of the same meaning: there are t and τ after it
+module _ (m : Meaning) (laws : Laws m) (whole : Outcome) (s : State) (proper : (i : ℕ) → Proper (s.entries i)) (σ : Source) (n : Meaning) (same : n ≡ m) (t : State) (τ : Source)
+    (survey : t ≡ (step n s σ).survey) (source : τ ≡ (step n s σ).source) (d : ℕ) (o : ℕ → ℕ) (runs : Runs m whole s σ) where
+  answer : (r : Result (Option Line) Refusal) → r ≡ step_reply d o (step n s σ).answer → r ≡ step_reply d o (step m s σ).answer
+  answer r h = h ∙ ap (λ (k : Meaning). step_reply d o (step k s σ).answer) same
 
-  pub runs_more : (l : Line) → Ok (Some l) ≡ step_reply d o (step m s σ).answer → Runs m whole t τ
+  survey_of : t ≡ (step m s σ).survey
+  survey_of = survey ∙ ap (λ (k : Meaning). (step k s σ).survey) same
+
+  source_of : τ ≡ (step m s σ).source
+  source_of = source ∙ ap (λ (k : Meaning). (step k s σ).source) same
+
+  nearer : Paid (step m s σ).answer → payable m.size t < payable m.size s
+  nearer p =
+      subst (λ (u : State). payable m.size u < payable m.size s) (sym survey_of) (pays_one m laws s proper σ p.0 p.1 p.2)
+
+  pub runs_nearer : (l : Line) → Ok (Some l) ≡ step_reply d o (step n s σ).answer → payable m.size t < payable m.size s
+  runs_nearer l h = nearer (paid_reply d o (step m s σ).answer l (answer _ h))
+
+  pub runs_more : (l : Line) → Ok (Some l) ≡ step_reply d o (step n s σ).answer → Runs m whole t τ
   runs_more l h = by_left runs.left runs.enough runs.is
     where
-      near : payable m.size t < payable m.size s
-      near = runs_nearer l h
+      paid : Paid (step m s σ).answer
+      paid = paid_reply d o (step m s σ).answer l (answer _ h)
 
       by_left : (k : ℕ) → payable m.size s ≤ k → steps k m s σ ≡ whole → Runs m whole t τ
-      by_left zero b e = absurd (omega (arith, near))
+      by_left zero b e = absurd (omega (arith, nearer paid))
       by_left (suc k) b e = record {
         left = k;
-        enough = omega (arith, near);
+        enough = omega (arith, nearer paid);
         is =
-            ap (λ (u : State). steps k m u τ) survey ∙
-            (ap (λ (υ : Source). steps k m (step m s σ).survey υ) source ∙
-            (sym (steps_more k m s σ (paid_reply d o (step m s σ).answer l h)) ∙ e));
+            ap (λ (u : State). steps k m u τ) survey_of ∙
+            (ap (λ (υ : Source). steps k m (step m s σ).survey υ) source_of ∙
+            (sym (steps_more k m s σ paid) ∙ e));
       }
 
-  ends : Last (step m s σ).answer → step m s σ ≡ whole
-  ends l = sym (steps_last runs.left m s σ l) ∙ runs.is
+  -- what a run comes to that this step ends
+  pub record Ends : Type 0 where
+    pub survey_is : t ≡ whole.survey
+    pub source_is : τ ≡ whole.source
+    pub answer_is : (r : Result (Option Line) Refusal) → r ≡ step_reply d o (step n s σ).answer → unlined r ≡ run_reply d o whole.answer
 
-  pub runs_survey : Last (step m s σ).answer → t ≡ whole.survey
-  runs_survey l = survey ∙ ap (λ (x : Outcome). x.survey) (ends l)
+  ends : Last (step m s σ).answer → Ends
+  ends l =
+      let e : step m s σ ≡ whole = sym (steps_last runs.left m s σ l) ∙ runs.is in
+      record {
+        survey_is = survey_of ∙ ap (λ (x : Outcome). x.survey) e;
+        source_is = source_of ∙ ap (λ (x : Outcome). x.source) e;
+        answer_is = λ r h. ap unlined (answer r h) ∙ ap (λ (x : Outcome). run_reply d o x.answer) e;
+      }
 
-  pub runs_source : Last (step m s σ).answer → τ ≡ whole.source
-  runs_source l = source ∙ ap (λ (x : Outcome). x.source) (ends l)
+  pub runs_none : Ok None ≡ step_reply d o (step n s σ).answer → Ends
+  runs_none h = ends (none_last d o (step m s σ).answer (answer _ h))
 
-  pub runs_none : Ok None ≡ step_reply d o (step m s σ).answer → (t ≡ whole.survey) × (τ ≡ whole.source) × (Ok tt ≡ run_reply d o whole.answer)
-  runs_none h =
-      let l = none_last d o (step m s σ).answer h in
-      (runs_survey l, runs_source l, ap unlined h ∙ ap (λ (x : Outcome). run_reply d o x.answer) (ends l))
-
-  pub runs_err : (f : Refusal) → Err f ≡ step_reply d o (step m s σ).answer → (t ≡ whole.survey) × (τ ≡ whole.source) × (Err f ≡ run_reply d o whole.answer)
-  runs_err f h =
-      let l = err_last d o (step m s σ).answer f h in
-      (runs_survey l, runs_source l, ap unlined h ∙ ap (λ (x : Outcome). run_reply d o x.answer) (ends l))
+  pub runs_err : (f : Refusal) → Err f ≡ step_reply d o (step n s σ).answer → Ends
+  runs_err f h = ends (err_last d o (step m s σ).answer f (answer _ h))
 
 -- a step leaves the depth of its source
 pub depth_step : (m : Meaning) (s : State) (σ τ : Source) → τ ≡ (step m s σ).source → τ.supply.depth ≡ σ.supply.depth

@@ -1,10 +1,10 @@
 -- The state of a survey, as the code's tables hold it. Assumes nothing.
-use Rattle.std.specs.Prelude.{ℕ, Bool, cond, List, Some, None, vec_items, Option, nat_lt}
+use Rattle.std.specs.Prelude.{ℕ, Bool, cond, List, vec_items, nat_lt}
 use Rattle.entry.specs.declared.Entry.{Entry as Value}
 use Rattle.entry.specs.Entries.{Entry, Known}
 use Rattle.entry.specs.Held.{sheet}
 use Rattle.source.specs.Supplies.{Supply}
-use Rattle.promise.specs.Surveys.{Plan, Source, State, ask, rest}
+use Rattle.promise.specs.Surveys.{Source, State}
 use Rattle.survey.specs.declared.tables.Tables.{Tables}
 
 -- the tables as a state
@@ -14,11 +14,6 @@ state t = record { entries = sheet t.entries; ledger = vec_items t.lines; pendin
 -- a source as a survey meets it, by what its type says that it means and keeps
 abbrev pub sourced : {X : Type 0} → (X → Supply) → (X → ℕ → Bool) → X → Source
 sourced meaning keeps x = record { supply = meaning x; keeps = keeps x }
-
--- the element of the next price call, and the one that is pending after it
-abbrev pub asked : Plan → Option (ℕ × Option ℕ)
-asked (rest K) = None
-asked (ask e q) = Some (e, q)
 
 -- the entries that a survey of n elements starts with: those of the list, and 0 is known of any other
 abbrev pub listed : ℕ → List Value → ℕ → Entry

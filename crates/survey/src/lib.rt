@@ -2,7 +2,6 @@
 #![tactic(auto)]
 
 mod pricing;
-mod reports;
 mod steps;
 mod surveys;
 mod tables;

@@ -1,29 +1,30 @@
 // A survey, and the calls on it.
-ghost use Rattle.std.specs.Prelude.{◌≡◌, IfOk, IfErr};
+ghost use Rattle.std.specs.Prelude.{◌≡◌, ◌≤◌, IfOk, IfErr};
+ghost use Rattle.element.specs.Marks.{all_marks};
 ghost use Rattle.std.specs.List.{slice_get};
 ghost use Rattle.entry.specs.Held.{held, sheet};
 ghost use Rattle.fault.specs.Refusals.{refusal, refused, told};
-ghost use Rattle.promise.specs.Replies.{note_reply, report_reply, run_reply, step_reply};
+ghost use Rattle.promise.specs.Replies.{followed, note_reply, report_reply, run_reply, step_reply};
 ghost use Rattle.promise.specs.Surveys.{fresh, note, run, step};
 ghost use Rattle.promise.specs.Reports.{Assures};
 ghost use Rattle.promise.specs.Runs.{Progresses, Unpaid};
 ghost use Rattle.survey.specs.States.{listed, sourced, state};
 
-use crate::reports::show_settled;
-use crate::steps::{run_steps, take_step};
+use crate::steps::Stepped;
 use crate::tables::Tables;
 use element::{Element, Line, MARKS, Price};
 use entry::Entry;
 use fault::Fault;
-use matroid::Matroid;
+use matroid::{Matroid, show};
 use source::Source;
 use std::alloc::Global;
+use walk::{Progress, Walk, walk_through};
 
 // A survey of a matroid's elements.
 #[derive(Drop)]
 pub struct Survey<M> {
-    matroid: M,
-    tables: Tables,
+    pub(crate) matroid: M,
+    pub(crate) tables: Tables,
 }
 
 // The entries of the first n elements: those of the list, and 0 is known of any other.
@@ -31,9 +32,8 @@ fn table_of(entries: &[Entry], n: Element) -> [Entry; MARKS]
     ensures { sheet result ≡ listed n entries.now }
 {
     let mut table = [Entry::Known(0); MARKS];
-    for i in 0..entries.len().min(n as usize) {
-        table[i] = entries[i];
-    }
+    let count = entries.len().min(usize::from(n));
+    table[..count].copy_from_slice(&entries[..count]);
     table
 }
 
@@ -44,17 +44,15 @@ impl<M: Matroid + Drop> Survey<M> {
         ensures refused { IfErr result (λ f. refusal f ≡ refused 0 0 0) }
     {
         let entries = table_of(entries, matroid.size());
-        match Vec::with_capacity(heap, MARKS) {
-            Ok(lines) => Ok(Survey {
-                matroid,
-                tables: Tables {
-                    entries,
-                    lines,
-                    pending: None,
-                },
-            }),
-            Err(_) => Err(Fault::NoMemory),
-        }
+        let lines = Vec::with_capacity(heap, MARKS)?;
+        Ok(Survey {
+            matroid,
+            tables: Tables {
+                entries,
+                lines,
+                pending: None,
+            },
+        })
     }
 
     // One step: none where the survey is finished, else the line that was paid.
@@ -64,7 +62,11 @@ impl<M: Matroid + Drop> Survey<M> {
         ensures survey { state self.new.tables ≡ (step (M.Matroid.meaning self.old.matroid) (state self.old.tables) (sourced S.Source.meaning S.Source.keeps source.old)).survey }
         ensures source { sourced S.Source.meaning S.Source.keeps source.new ≡ (step (M.Matroid.meaning self.old.matroid) (state self.old.tables) (sourced S.Source.meaning S.Source.keeps source.old)).source }
     {
-        take_step(&self.matroid, &mut self.tables, source)
+        let mut progress = Progress::new();
+        match self.advance(&mut progress, source)? {
+            Stepped::Finished(_) => Ok(None),
+            Stepped::Paid(line) => Ok(Some(line)),
+        }
     }
 
     // Steps until the survey is finished, or a step is refused; the steps made stay.
@@ -76,7 +78,28 @@ impl<M: Matroid + Drop> Survey<M> {
         ensures unpaid { Unpaid (run (M.Matroid.meaning self.old.matroid) (state self.old.tables) (sourced S.Source.meaning S.Source.keeps source.old)) }
         ensures progress { Progresses (M.Matroid.meaning self.old.matroid) (state self.old.tables) (sourced S.Source.meaning S.Source.keeps source.old) }
     {
-        run_steps(&self.matroid, &mut self.tables, source)
+        self.run_to_base(source)?;
+        Ok(())
+    }
+
+    // Runs, and where it is finished shows the base that is settled, in the first marks: a run and then a report, by one walk.
+    pub fn run_and_report<S: Source>(
+        &mut self,
+        source: &mut S,
+        marks: &mut [bool],
+    ) -> Result<(), Fault>
+        ensures matroid { self.new.matroid ≡ self.old.matroid }
+        ensures answer { told (λ x. x) result ≡ (followed (run_reply (S.Source.meaning source.old).depth (S.Source.origin source.new) (run (M.Matroid.meaning self.old.matroid) (state self.old.tables) (sourced S.Source.meaning S.Source.keeps source.old)).answer) marks.old (report_reply (M.Matroid.meaning self.old.matroid) (run (M.Matroid.meaning self.old.matroid) (state self.old.tables) (sourced S.Source.meaning S.Source.keeps source.old)).survey marks.old)).answer }
+        ensures marks { marks.new ≡ (followed (run_reply (S.Source.meaning source.old).depth (S.Source.origin source.new) (run (M.Matroid.meaning self.old.matroid) (state self.old.tables) (sourced S.Source.meaning S.Source.keeps source.old)).answer) marks.old (report_reply (M.Matroid.meaning self.old.matroid) (run (M.Matroid.meaning self.old.matroid) (state self.old.tables) (sourced S.Source.meaning S.Source.keeps source.old)).survey marks.old)).marks }
+        ensures survey { state self.new.tables ≡ (run (M.Matroid.meaning self.old.matroid) (state self.old.tables) (sourced S.Source.meaning S.Source.keeps source.old)).survey }
+        ensures source { sourced S.Source.meaning S.Source.keeps source.new ≡ (run (M.Matroid.meaning self.old.matroid) (state self.old.tables) (sourced S.Source.meaning S.Source.keeps source.old)).source }
+    {
+        let kept = self.run_to_base(source)?;
+        if marks.len() < MARKS {
+            return Err(Fault::TooFewMarks);
+        }
+        show(&kept, self.matroid.size(), marks);
+        Ok(())
     }
 
     // Makes a price known that was learnt elsewhere: the ledger stays as it was.
@@ -88,7 +111,7 @@ impl<M: Matroid + Drop> Survey<M> {
         if element >= self.matroid.size() {
             return Err(Fault::NoSuchElement { element });
         }
-        let entry = self.tables.entries[element as usize];
+        let entry = self.tables.entry(element);
         if entry.is_known() {
             return Err(Fault::AlreadyKnown { element });
         }
@@ -99,13 +122,32 @@ impl<M: Matroid + Drop> Survey<M> {
         Ok(())
     }
 
+    // Shows the base that is settled, whatever its report promises.
+    fn show_settled(&self, marks: &mut [bool]) -> Result<(), Fault>
+        ensures answer { told (λ x. x) result ≡ (report_reply (M.Matroid.meaning self.now.matroid) (state self.now.tables) marks.old).answer }
+        ensures marks { marks.new ≡ (report_reply (M.Matroid.meaning self.now.matroid) (state self.now.tables) marks.old).marks }
+        ensures small { (M.Matroid.meaning self.now.matroid).size ≤ all_marks }
+    {
+        let n = self.matroid.size();
+        if marks.len() < MARKS {
+            return Err(Fault::TooFewMarks);
+        }
+        match walk_through(&self.matroid, &self.tables.entries) {
+            Walk::Settled(kept) => {
+                show(&kept, n, marks);
+                Ok(())
+            }
+            Walk::Open(_) => Err(Fault::NotSettled),
+        }
+    }
+
     // Shows the base that is settled, in the first marks.
     pub fn report(&self, marks: &mut [bool]) -> Result<(), Fault>
         ensures answer { told (λ x. x) result ≡ (report_reply (M.Matroid.meaning self.now.matroid) (state self.now.tables) marks.old).answer }
         ensures marks { marks.new ≡ (report_reply (M.Matroid.meaning self.now.matroid) (state self.now.tables) marks.old).marks }
         ensures promise { Assures (M.Matroid.meaning self.now.matroid) (state self.now.tables) (told (λ x. x) result) marks.new }
     {
-        show_settled(&self.matroid, &self.tables, marks)
+        self.show_settled(marks)
     }
 
     // The lines of the prices paid, in their order.
@@ -119,17 +161,13 @@ impl<M: Matroid + Drop> Survey<M> {
     pub fn line(&self, position: usize) -> Option<Line>
         ensures { result ≡ slice_get (state self.now.tables).ledger position }
     {
-        if position < self.tables.lines.len() {
-            Some(self.tables.lines[position])
-        } else {
-            None
-        }
+        self.tables.lines.get(position).copied()
     }
 
     // What is known of the element's price now.
     pub fn entry(&self, element: Element) -> Entry
         ensures { held result ≡ (state self.now.tables).entries element }
     {
-        self.tables.entries[element as usize]
+        self.tables.entry(element)
     }
 }

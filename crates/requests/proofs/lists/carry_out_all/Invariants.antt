@@ -4,7 +4,7 @@ use Rattle.survey.specs.States.{state}
 use Rattle.requests.proofs.Turns.{Carried}
 use Rattle.requests.proofs.lists.carry_out_all.Given as goal
 
-abbrev pub invariant-loop-i : goal.invariant-loop-i
-invariant-loop-i g l =
+abbrev pub invariant-loop-request : goal.invariant-loop-request
+invariant-loop-request g l =
     (l.survey.matroid ≡ l.initial.survey.matroid)
-    × Carried g.S.Source.meaning g.S.Source.keeps g.S.Source.origin (g.M.Matroid.meaning l.initial.survey.matroid) (state l.initial.survey.tables) l.initial.requests l.i (state l.survey.tables) l.requests (told (λ x. x) l.answer)
+    × Carried g.S.Source.meaning g.S.Source.keeps g.S.Source.origin (g.M.Matroid.meaning l.initial.survey.matroid) (state l.initial.survey.tables) l.initial.requests l.request-index (state l.survey.tables) l.requests (told (λ x. x) l.answer)
