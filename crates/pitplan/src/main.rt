@@ -12,8 +12,8 @@ fn main(rt: HostRuntime) -> io::Result<()> {
     let heap = rt.alloc();
     let mut sheet = Vec::new(heap);
     rt.stdin().take(MOST_READ).read_to_end(&mut sheet)?;
-    match plan(heap, sheet.as_slice()) {
-        Ok(text) => rt.write_all(text.as_slice()),
+    match plan(heap, &sheet) {
+        Ok(text) => rt.write_all(&text),
         Err(fault) => rt.eprintln(fault),
     }
 }

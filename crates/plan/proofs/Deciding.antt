@@ -1,21 +1,20 @@
 -- What a run and a report come to is the plan of the survey. Assumes nothing.
-use Rattle.std.proofs.Common.{◌≡◌, ℕ, zero, suc, ◌<◌, ◌≤◌, Bool, false, cond, ◌&&◌, List, [], ◌++◌, length, replicate, Some, None, Ok, Err, codes, decimal, Option, Result, sym, refl, ap, ◌∙◌, ⊎_elim, arith}
+use Rattle.std.proofs.Common.{◌≡◌, ℕ, zero, suc, ◌<◌, ◌≤◌, Bool, false, cond, ◌&&◌, List, [], ◌++◌, length, replicate, Some, None, Ok, Err, Option, Result, sym, refl, ap, ◌∙◌, ⊎_elim, arith}
 use mathlib.Core.Path.{fun_ext}
-use Rattle.form.specs.Sheets.{ended, spaced}
 use lib.ListN.{length-replicate}
 use Rattle.std.proofs.lemmas.Bool.{cases_lt, lt-ltb, le-ltb}
 use Rattle.std.proofs.lemmas.List.{get_or_past}
 use Rattle.element.specs.Marks.{all_marks}
 use Rattle.entry.specs.Entries.{Entry, high, low}
 use Rattle.fault.specs.Refusals.{Refusal}
-use Rattle.matroid.specs.Sets.{Elements, count, cut, sum}
+use Rattle.matroid.specs.Sets.{Elements, cut}
 use Rattle.matroid.specs.Matroids.{Meaning}
 use Rattle.matroid.specs.Questions.{marked, shown}
 use Rattle.matroid.proofs.Counts.{count_same, sum_same}
 use Rattle.matroid.proofs.Marks.{length_shown, shown_here}
 use Rattle.promise.specs.Surveys.{Source, State, Outcome, fresh, run, report}
-use Rattle.promise.specs.Replies.{Reply, showing, run_reply, report_reply}
-use Rattle.plan.specs.Texts.{each_kept, kept_line, ledger_text, total_text, finished_text, decided_text, and_then, quota_origin, by_answer, plan_of}
+use Rattle.promise.specs.Replies.{followed, showing, run_reply, report_reply}
+use Rattle.plan.specs.Texts.{each_kept, kept_line, finished_text, decided_text, quota_origin, by_answer, plan_of}
 
 -- marks of which none is set
 abbrev pub blank : List Bool
@@ -40,48 +39,26 @@ same_each (suc n) A B text e =
 
 same_finished : (n : ℕ) (s : State) (named : ℕ → List ℕ) (A B : Elements) → ((i : ℕ) → i < n → A i ≡ B i) → finished_text n s named A ≡ finished_text n s named B
 same_finished n s named A B e =
-    ap (λ c. text c (each_kept n A (kept_line s.entries named)) (sum n (λ i. low (s.entries i)) A) (sum n (λ i. high (s.entries i)) A)) (count_same n A B e) ∙
-    (ap (λ t. text (count n B) t (sum n (λ i. low (s.entries i)) A) (sum n (λ i. high (s.entries i)) A)) (same_each n A B (kept_line s.entries named) e) ∙
-    (ap (λ k. text (count n B) (each_kept n B (kept_line s.entries named)) k (sum n (λ i. high (s.entries i)) A)) (sum_same n (λ i. low (s.entries i)) (λ i. low (s.entries i)) A B e (λ i l. refl)) ∙
-    ap (λ k. text (count n B) (each_kept n B (kept_line s.entries named)) (sum n (λ i. low (s.entries i)) B) k) (sum_same n (λ i. high (s.entries i)) (λ i. high (s.entries i)) A B e (λ i l. refl))))
-  where
-    text : ℕ → List ℕ → ℕ → ℕ → List ℕ
-    text c lines lows highs =
-        ended (codes "finished") ++ (ledger_text s.ledger ++ (ended (decimal c) ++ (lines ++ (spaced (codes "total") ++ (spaced (total_text lows) ++ ended (total_text highs))))))
+    cc (count_same n A B e, same_each n A B (kept_line s.entries named) e, sum_same n (λ i. low (s.entries i)) (λ i. low (s.entries i)) A B e (λ i l. refl), sum_same n (λ i. high (s.entries i)) (λ i. high (s.entries i)) A B e (λ i l. refl))
 
 module _ (m : Meaning) (small : m.size ≤ all_marks) (named : ℕ → List ℕ) (s : State) where
-  roomy : report_reply m s blank ≡ showing m.size (report m s) blank
-  roomy = refl
-
   by_option : (o : Option Elements) (marks : List Bool) (r : Result (Unit {0}) Refusal) → r ≡ (showing m.size o blank).answer → (r ≡ Ok tt → marks ≡ (showing m.size o blank).marks)
       → decided_text m.size s named r (marked marks) ≡ by_answer m.size s named (Ok tt) o
   by_option None marks r e k = ap (λ (x : Result (Unit {0}) Refusal). decided_text m.size s named x (marked marks)) e
-  by_option (Some K) marks r e k =
-      ap (λ (x : Result (Unit {0}) Refusal). decided_text m.size s named x (marked marks)) e ∙
-      (ap (λ (L : Elements). finished_text m.size s named L) (ap marked (k e) ∙ marked_shown m.size K small) ∙
-      same_finished m.size s named (cut m.size K) K (λ i l. ap (λ b. b && K i) (lt-ltb i m.size l)))
+  by_option (Some K) marks r e k = cc (k e, marked_shown m.size K small, same_finished m.size s named (cut m.size K) K (λ i l. ap (λ b. b && K i) (lt-ltb i m.size l)))
 
-  by_run : (rr : Result (Unit {0}) Refusal) (marks : List Bool) (r : Result (Unit {0}) Refusal) → r ≡ and_then rr (report_reply m s blank).answer → (r ≡ Ok tt → marks ≡ (report_reply m s blank).marks)
+  by_run : (rr : Result (Unit {0}) Refusal) (marks : List Bool) (r : Result (Unit {0}) Refusal) → r ≡ (followed rr blank (report_reply m s blank)).answer → marks ≡ (followed rr blank (report_reply m s blank)).marks
       → decided_text m.size s named r (marked marks) ≡ by_answer m.size s named rr (report m s)
   by_run (Err f) marks r e k = ap (λ (x : Result (Unit {0}) Refusal). decided_text m.size s named x (marked marks)) e
-  by_run (Ok tt) marks r e k = by_option (report m s) marks r (e ∙ ap (λ (x : Reply). x.answer) roomy) (λ h. k h ∙ ap (λ (x : Reply). x.marks) roomy)
+  by_run (Ok tt) marks r e k = by_option (report m s) marks r e (λ h. k)
 
-module _ (m m₀ m₁ : Meaning) (same₀ : m₀ ≡ m) (same₁ : m₁ ≡ m) (E : ℕ → Entry) (s₀ s₁ : State) (σ σ₀ σ₁ : Source) (named : ℕ → List ℕ) (origin : ℕ → ℕ) (n : ℕ) (marks : List Bool) (r : Result (Unit {0}) Refusal) where
+module _ (m m₀ : Meaning) (same : m₀ ≡ m) (E : ℕ → Entry) (s₀ s₁ : State) (σ σ₀ σ₁ : Source) (named : ℕ → List ℕ) (origin : ℕ → ℕ) (n : ℕ) (marks : List Bool) (r : Result (Unit {0}) Refusal) where
   pub planned : s₀ ≡ fresh E → σ₀ ≡ σ → s₁ ≡ (run m₀ s₀ σ₀).survey → σ₁ ≡ (run m₀ s₀ σ₀).source → origin ≡ quota_origin σ₁.supply
-      → r ≡ and_then (run_reply σ₀.supply.depth origin (run m₀ s₀ σ₀).answer) (report_reply m₁ s₁ blank).answer → (r ≡ Ok tt → marks ≡ (report_reply m₁ s₁ blank).marks)
+      → r ≡ (followed (run_reply σ₀.supply.depth origin (run m₀ s₀ σ₀).answer) blank (report_reply m₀ (run m₀ s₀ σ₀).survey blank)).answer
+      → marks ≡ (followed (run_reply σ₀.supply.depth origin (run m₀ s₀ σ₀).answer) blank (report_reply m₀ (run m₀ s₀ σ₀).survey blank)).marks
       → n ≡ m.size → n ≤ all_marks
       → decided_text n s₁ named r (marked marks) ≡ plan_of m E σ named
   planned es eσ e₁ e₂ eo er ek en small =
       let o : Outcome = run m (fresh E) σ in
-      let a : run m₀ s₀ σ₀ ≡ o = ap (λ (x : Meaning). run x s₀ σ₀) same₀ ∙ (ap (λ (s : State). run m s σ₀) es ∙ ap (λ (t : Source). run m (fresh E) t) eσ) in
-      let here : origin ≡ quota_origin o.source.supply = eo ∙ ap (λ (t : Source). quota_origin t.supply) (e₂ ∙ ap (λ (x : Outcome). x.source) a) in
       let rr : Result (Unit {0}) Refusal = run_reply σ.supply.depth (quota_origin o.source.supply) o.answer in
-      let answer : run_reply σ₀.supply.depth origin (run m₀ s₀ σ₀).answer ≡ rr =
-      ap (λ (t : Source). run_reply t.supply.depth origin (run m₀ s₀ σ₀).answer) eσ ∙
-      (ap (λ (f : ℕ → ℕ). run_reply σ.supply.depth f (run m₀ s₀ σ₀).answer) here ∙
-      ap (λ (x : Outcome). run_reply σ.supply.depth (quota_origin o.source.supply) x.answer) a) in
-      ap (λ k. decided_text k s₁ named r (marked marks)) en ∙
-      (by_run m (omega arith) named s₁ rr marks r
-      (er ∙ (ap (λ (x : Result (Unit {0}) Refusal). and_then x (report_reply m₁ s₁ blank).answer) answer ∙ ap (λ (x : Meaning). and_then rr (report_reply x s₁ blank).answer) same₁))
-      (λ h. ek h ∙ ap (λ (x : Meaning). (report_reply x s₁ blank).marks) same₁) ∙
-      ap (λ (s : State). by_answer m.size s named rr (report m s)) (e₁ ∙ ap (λ (x : Outcome). x.survey) a))
+      ap (λ k. decided_text k s₁ named r (marked marks)) en ∙ (by_run m (omega arith) named s₁ rr marks r (cc) (cc) ∙ cc)

@@ -1,25 +1,71 @@
--- One more element of a sum, a count or a list. Assumes nothing.
-use Rattle.std.proofs.Common.{◌≡◌, ℕ, ◌+◌, true, false, List, [], ◌++◌, sym, ap, ◌∙◌, add-one, arith}
-use Rattle.std.proofs.lemmas.List.{append-nil}
-use Rattle.std.proofs.lemmas.Bool.{cond-true, cond-false}
-use Rattle.matroid.specs.Sets.{Elements, count, sum}
+-- Walks through the first marks, one mark at a time: one more element of a sum, a count or a list. Assumes nothing.
+use Rattle.std.proofs.Common.{◌≡◌, ℕ, zero, suc, ◌+◌, ◌-◌, ◌<◌, ◌≤◌, Bool, true, false, List, [], ◌∷◌, ◌++◌, length, take, drop, sym, refl, ap, ◌∙◌, inl, inr, add-one, arith}
+use Rattle.std.specs.Prelude.{count_by}
+use Rattle.std.proofs.lemmas.List.{append-nil, get_or_past, take_all}
+use Rattle.std.proofs.lemmas.List.Sums.{count_by_more_no, count_by_more_yes}
+use Rattle.std.proofs.lemmas.Bool.{cases_Bool, cases_lt, cond-true, cond-false}
+use Rattle.matroid.specs.Questions.{marked}
+use Rattle.matroid.specs.Sets.{count, sum}
 use Rattle.plan.specs.Texts.{each_kept}
 
-module _ (n : ℕ) (K : Elements) where
-  pub count_in : K n ≡ true → count (n + 1) K ≡ count n K + 1
-  count_in h = let e = cond-true {A = ℕ} (K n) 1 0 h in ap (λ k. count k K) (add-one n) ∙ omega arith
+-- the first of the marks that are left
+first_left : (marks : List Bool) (i : ℕ) (mark : Bool) (rest : List Bool) → drop i marks ≡ mark ∷ rest → (marked marks i ≡ mark) × (rest ≡ drop (suc i) marks)
+first_left [] zero mark rest e = absurd (cc)
+first_left [] (suc i) mark rest e = absurd (cc)
+first_left (x ∷ xs) zero mark rest e = (cc, cc)
+first_left (x ∷ xs) (suc i) mark rest e = first_left xs i mark rest e
 
-  pub count_out : K n ≡ false → count (n + 1) K ≡ count n K
-  count_out h = let e = cond-false {A = ℕ} (K n) 1 0 h in ap (λ k. count k K) (add-one n) ∙ omega arith
+-- a walk through the first n marks has come to number i; `left` are all marks that are left
+pub record Walk (marks : List Bool) (n i end : ℕ) (left : List Bool) : Type 0 where
+  pub ends : end ≡ n
+  pub within : i ≤ n
+  pub rests : left ≡ drop i marks
 
-  pub sum_in : (v : ℕ → ℕ) → K n ≡ true → sum (n + 1) v K ≡ sum n v K + v n
-  sum_in v h = let e = cond-true {A = ℕ} (K n) (v n) 0 h in ap (λ k. sum k v K) (add-one n) ∙ omega arith
+-- one step of it, at the number k
+module _ {marks left rest : List Bool} {n i j k end after : ℕ} {mark : Bool} (walk : Walk marks n i end left)
+    (step : ((after ≡ end) × ((0 < end - i) × (k ≡ i) × (j ≡ i + 1))) × (left ≡ mark ∷ rest)) where
+  next : suc i ≡ j
+  next = sym (add-one i) ∙ sym step.0.1.2
 
-  pub sum_out : (v : ℕ → ℕ) → K n ≡ false → sum (n + 1) v K ≡ sum n v K
-  sum_out v h = let e = cond-false {A = ℕ} (K n) (v n) 0 h in ap (λ k. sum k v K) (add-one n) ∙ omega arith
+  here : (marked marks i ≡ mark) × (rest ≡ drop (suc i) marks)
+  here = first_left marks i mark rest (sym walk.rests ∙ step.1)
 
-  pub each_in : (text : ℕ → List ℕ) → K n ≡ true → each_kept n K text ++ text n ≡ each_kept (n + 1) K text
-  each_in text h = ap (λ t. each_kept n K text ++ t) (sym (cond-true (K n) (text n) [] h)) ∙ ap (λ k. each_kept k K text) (sym (add-one n))
+  pub walked : Walk marks n j after rest
+  walked = record {
+    ends = step.0.0 ∙ walk.ends;
+    within = omega arith;
+    rests = here.1 ∙ ap (λ x. drop x marks) next;
+  }
 
-  pub each_out : (text : ℕ → List ℕ) → K n ≡ false → each_kept n K text ≡ each_kept (n + 1) K text
-  each_out text h = sym (append-nil (each_kept n K text)) ∙ (ap (λ t. each_kept n K text ++ t) (sym (cond-false (K n) (text n) [] h)) ∙ ap (λ k. each_kept k K text) (sym (add-one n)))
+  pub sum_in : (v : ℕ → ℕ) → mark ≡ true → sum j v (marked marks) ≡ sum i v (marked marks) + v k
+  sum_in v h = let e = cond-true {A = ℕ} (marked marks i) (v i) 0 (here.0 ∙ h) in ap (λ x. sum x v (marked marks)) (sym next) ∙ omega (arith, ap v step.0.1.1)
+
+  pub sum_out : (v : ℕ → ℕ) → mark ≡ false → sum j v (marked marks) ≡ sum i v (marked marks)
+  sum_out v h = let e = cond-false {A = ℕ} (marked marks i) (v i) 0 (here.0 ∙ h) in ap (λ x. sum x v (marked marks)) (sym next) ∙ omega arith
+
+  pub each_in : (text : ℕ → List ℕ) → mark ≡ true → each_kept i (marked marks) text ++ text k ≡ each_kept j (marked marks) text
+  each_in text h =
+      ap (λ t. each_kept i (marked marks) text ++ t) (ap text step.0.1.1 ∙ sym (cond-true (marked marks i) (text i) [] (here.0 ∙ h))) ∙
+      ap (λ x. each_kept x (marked marks) text) next
+
+  pub each_out : (text : ℕ → List ℕ) → mark ≡ false → each_kept i (marked marks) text ≡ each_kept j (marked marks) text
+  each_out text h =
+      sym (append-nil (each_kept i (marked marks) text)) ∙
+      (ap (λ t. each_kept i (marked marks) text ++ t) (sym (cond-false (marked marks i) (text i) [] (here.0 ∙ h))) ∙ ap (λ x. each_kept x (marked marks) text) next)
+
+-- how many of the first n marks are set
+pub count_marked : (n : ℕ) (marks : List Bool) → count_by (λ (b : Bool). b) (take n marks) ≡ count n (marked marks)
+count_marked zero marks = refl
+count_marked (suc n) marks =
+    let before = count_marked n marks in
+    ap (λ k. count_by (λ (b : Bool). b) (take k marks)) (sym (add-one n)) ∙
+    elim (cases_lt n (length marks)) [
+      | inl l ↦ elim (cases_Bool (marked marks n)) [
+        | inl h ↦ let c = cond-true {A = ℕ} (marked marks n) 1 0 h in let m = count_by_more_yes (λ (b : Bool). b) marks n false l h in omega arith
+        | inr h ↦ let c = cond-false {A = ℕ} (marked marks n) 1 0 h in let m = count_by_more_no (λ (b : Bool). b) marks n false l h in omega arith
+      ]
+      | inr p ↦
+          let c = cond-false {A = ℕ} (marked marks n) 1 0 (get_or_past marks n false p) in
+          let m = ap (count_by (λ (b : Bool). b)) (take_all (n + 1) marks (omega arith) ∙ sym (take_all n marks p)) in
+          omega arith
+    ]

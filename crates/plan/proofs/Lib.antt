@@ -1,4 +1,3 @@
-mod Asking
 mod Deciding
 mod Keeping
 mod Linking

@@ -1,7 +1,8 @@
 -- How a kept element is named. Assumes nothing.
-use Rattle.std.specs.Prelude.{ℕ, List, [], ◌++◌, map, Some, None, Option, slice_index_or}
+use Rattle.std.specs.Prelude.{ℕ, List, [], ◌++◌, map, Some, None, vec_items, Option, slice_index_or}
 use Rattle.std.specs.Borrow.{Bor}
 use Rattle.std.specs.List.{slice_get}
+use Rattle.sheet.specs.declared.values.Body.{Body}
 use Rattle.sheet.specs.declared.values.ElementLine.{ElementLine}
 use Rattle.kinds.specs.declared.Route.{Route}
 use Rattle.sheet.specs.declared.values.Lot.{Lot}
@@ -36,3 +37,7 @@ word_name_text names w = word_text (word_of w)
 -- the name of the element at a number of the list, where `named` names a tail
 abbrev pub name_of : {T : Type 0} → (T → List ℕ) → List (ElementLine T) → ℕ → List ℕ
 name_of named es i = mapped_or [] (λ e. named e.tail) (slice_get es i)
+
+-- the same of a body, where `named` names a tail among the places
+abbrev pub held_names : {P T : Type 0} → (List P → T → List ℕ) → Body P T → ℕ → List ℕ
+held_names named b = name_of (named (vec_items b.places)) (vec_items b.elements)

@@ -52,11 +52,6 @@ abbrev pub decided_text : ℕ → State → (ℕ → List ℕ) → Result (Unit 
 decided_text n s named (Ok u) K = finished_text n s named K
 decided_text n s named (Err f) K = stopped_text f s
 
--- the first answer where it is a refusal, and else the second
-abbrev pub and_then : Result (Unit {0}) Refusal → Result (Unit {0}) Refusal → Result (Unit {0}) Refusal
-and_then (Err f) r = Err f
-and_then (Ok u) r = r
-
 -- a refusal at a spent allowance comes from the quota, which stands one above the record; any other comes from the record
 abbrev pub quota_origin : Supply → ℕ → ℕ
 quota_origin σ e = cond (not (σ.free e) && exhausted σ.allowance) 1 0

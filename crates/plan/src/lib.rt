@@ -27,7 +27,7 @@ fn refused_bytes(heap: Global, fault: Fault) -> Result<Vec<u8>, Fault>
 {
     let mut writer = Writer::with_room(heap, REFUSED_BYTES)?;
     writer.put(b"refused ");
-    put_number(&mut writer, u32::from(fault.number()), b' ');
+    put_number(&mut writer, fault.number(), b' ');
     put_number(&mut writer, fault.place(), b'\n');
     writer.finish()
 }

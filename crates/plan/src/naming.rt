@@ -8,44 +8,28 @@ use kinds::Route;
 use sheet::{Lot, put_field, put_word};
 use writer::Writer;
 
-// What stands behind the ends of a kept element, where the first section of the sheet has these lines.
-pub trait Naming<'a> {
-    type Place: Drop;
+// What the line of an element ends in, told by the names of the first section, whose lines are of the type P.
+pub trait Named<P> {
+    ghost named: { List P → Self → List ℕ };
 
-    type Tail: Drop;
-
-    ghost named: { List Self.Place → Self.Tail → List ℕ };
-
-    fn put_named(writer: &mut Writer, places: &[Self::Place], tail: &Self::Tail)
-        ensures { Wrote writer.old (named places.now tail.now) writer.new };
+    fn put_named(&self, writer: &mut Writer, places: &[P])
+        ensures { Wrote writer.old (named places.now self.now) writer.new };
 }
 
 // The name at a number of the list; none is empty.
 fn name_at<'a>(places: &[&'a [u8]], place: Place) -> &'a [u8]
     ensures { result.now ≡ name_at places.now place }
 {
-    let place = place as usize;
-    if place < places.len() {
-        places[place]
-    } else {
-        b""
-    }
+    places.get(usize::from(place)).copied().unwrap_or(b"")
 }
 
-// Routes: the names of two places.
-#[derive(Clone, Copy)]
-pub struct RouteNaming;
-
-impl<'a> Naming<'a> for RouteNaming {
-    type Place = &'a [u8];
-
-    type Tail = Route;
-
+// A route: the names of its two places.
+impl<'a> Named<&'a [u8]> for Route {
     ghost named = { route_name_text };
 
-    fn put_named(writer: &mut Writer, places: &[&'a [u8]], tail: &Route) {
-        put_field(writer, name_at(places, tail.from), b' ');
-        put_field(writer, name_at(places, tail.to), b'\n');
+    fn put_named(&self, writer: &mut Writer, places: &[&'a [u8]]) {
+        put_field(writer, name_at(places, self.from), b' ');
+        put_field(writer, name_at(places, self.to), b'\n');
     }
 }
 
@@ -53,42 +37,23 @@ impl<'a> Naming<'a> for RouteNaming {
 fn lot_at<'a>(lots: &[Lot<'a>], lot: Place) -> &'a [u8]
     ensures { result.now ≡ lot_at lots.now lot }
 {
-    let lot = lot as usize;
-    if lot < lots.len() {
-        lots[lot].name
-    } else {
-        b""
-    }
+    lots.get(usize::from(lot)).map_or(b"", |lot| lot.name)
 }
 
-// Lots: the name of the lot.
-#[derive(Clone, Copy)]
-pub struct LotNaming;
-
-impl<'a> Naming<'a> for LotNaming {
-    type Place = Lot<'a>;
-
-    type Tail = Place;
-
+// The number of a lot: its name.
+impl<'a> Named<Lot<'a>> for Place {
     ghost named = { lot_name_text };
 
-    fn put_named(writer: &mut Writer, places: &[Lot<'a>], tail: &Place) {
-        put_field(writer, lot_at(places, *tail), b'\n');
+    fn put_named(&self, writer: &mut Writer, places: &[Lot<'a>]) {
+        put_field(writer, lot_at(places, *self), b'\n');
     }
 }
 
-// Words: the word itself.
-#[derive(Clone, Copy)]
-pub struct WordNaming;
-
-impl<'a> Naming<'a> for WordNaming {
-    type Place = &'a [u8];
-
-    type Tail = &'a [u8];
-
+// A word: the word itself.
+impl<'a> Named<&'a [u8]> for &'a [u8] {
     ghost named = { word_name_text };
 
-    fn put_named(writer: &mut Writer, _places: &[&'a [u8]], tail: &&'a [u8]) {
-        put_word(writer, tail);
+    fn put_named(&self, writer: &mut Writer, _places: &[&'a [u8]]) {
+        put_word(writer, self);
     }
 }

@@ -1,24 +1,33 @@
-use Rattle.std.proofs.Common.{◌≡◌, ℕ, ◌+◌, ◌*◌, ◌%◌, ◌^◌, Bool, true, false, cond, eqb, get_or, sym, refl, ap, ◌∙◌, add-one, arith}
-use mir.Val.{bool_byte}
-use lib.ListN.{length-map}
-use Rattle.std.proofs.lemmas.List.{get_or-map}
+use Rattle.std.proofs.Common.{◌≡◌, ℕ, zero, suc, ◌+◌, ◌*◌, ◌%◌, ◌^◌, ◌<◌, Bool, false, cond, eqb, List, [], ◌∷◌, ◌++◌, length, get_or, sym, refl, ap, ◌∙◌, add-one, arith, rules, length-append}
+use borrow.Author.Tests.{tests}
+use Rattle.std.proofs.iter.Yields.{fronts, slice_gives}
+use Rattle.std.proofs.lemmas.Fn.{fold_over}
+use Rattle.std.proofs.lemmas.List.{get_or_append_left, map-append}
+use Rattle.std.proofs.Math.Seq.{get_or-append_seam}
 use Rattle.sheet.specs.Code.{ones}
-use Rattle.plan.specs.Meanings.{numeral}
+use Rattle.plan.specs.Meanings.{numeral, word_number}
 use Rattle.plan.proofs.gathering.number_of.Goals as goal
 
-one_or_none : (b : Bool) → bool_byte b ≡ cond b 1 0
-one_or_none true = refl
-one_or_none false = refl
+-- a numeral goes by its first n bits
+same_numeral : (w v : ℕ → Bool) (n : ℕ) → ((i : ℕ) → i < n → w i ≡ v i) → numeral w n ≡ numeral v n
+same_numeral w v zero e = refl
+same_numeral w v (suc n) e =
+    ap (λ k. (2 * k + cond (w n) 1 0) % 2 ^ 64) (same_numeral w v n (λ i l. e i (omega arith))) ∙ ap (λ b. (2 * numeral v n + cond b 1 0) % 2 ^ 64) (e n (omega arith))
 
-pub loop-i-preserved : goal.loop-i-preserved
-loop-i-preserved c =
-    let w : ℕ → Bool = λ k. get_or (ones c.args.letters.now) k false in
-    let i = c.loop-i.i in
-    let bit : c.from.result ≡ cond (w i) 1 0 = c.from.ensures ∙ (one_or_none (eqb (get_or c.args.letters.now i 0) 49) ∙ ap (λ b. cond b 1 0) (sym (get_or-map (λ b. eqb b 49) c.args.letters.now i 0 false c.loop-i-test.true))) in
-    let sum : (c.loop-i.number * 2 % 2 ^ 64 + c.from.result) % 2 ^ 64 ≡ (2 * c.loop-i.number + c.from.result) % 2 ^ 64 = omega arith in
-    sum ∙ (ap (λ x. (2 * c.loop-i.number + x) % 2 ^ 64) bit ∙ (ap (λ x. (2 * x + cond (w i) 1 0) % 2 ^ 64) c.loop-i.invariant ∙ ap (numeral w) (sym (add-one i))))
+-- a word with one bit more
+word_more : (w : List Bool) (b : Bool) → word_number (w ++ (b ∷ [])) ≡ (2 * word_number w + cond b 1 0) % 2 ^ 64
+word_more w b =
+    let bits : ℕ → Bool = λ i. get_or (w ++ (b ∷ [])) i false in
+    ap (numeral bits) (length-append w (b ∷ []) ∙ add-one (length w)) ∙
+    (ap (λ k. (2 * k + cond (bits (length w)) 1 0) % 2 ^ 64) (same_numeral bits (λ i. get_or w i false) (length w) (λ i l. get_or_append_left w (b ∷ []) false i l)) ∙
+    ap (λ d. (2 * word_number w + cond d 1 0) % 2 ^ 64) (get_or-append_seam w b [] false))
 
 pub returns : goal.returns
 returns c =
-    let e : c.loop-i.i ≡ lib.ListN.length (ones c.args.letters.now) = omega (arith, length-map c.args.letters.now (λ b. eqb b 49)) in
-    c.loop-i.invariant ∙ ap (numeral (λ k. get_or (ones c.args.letters.now) k false)) e
+    fold_over fronts (λ y. y.now) _ (λ ys a. a ≡ word_number (ones ys)) _
+    (λ ys a x b f' j k.
+    let e : b ≡ (a * 2 % 2 ^ 64 + cond (eqb x.now 49) 1 0) % 2 ^ 64 = search (rules, tests) in
+    let m = word_more (ones ys) (eqb x.now 49) in
+    (e ∙ ((let s : (a * 2 % 2 ^ 64 + cond (eqb x.now 49) 1 0) % 2 ^ 64 ≡ (2 * word_number (ones ys) + cond (eqb x.now 49) 1 0) % 2 ^ 64 = omega arith in s) ∙ (sym m ∙ ap word_number (sym (map-append (λ y. eqb y 49) ys (x.now ∷ []))))), refl))
+    c.iter.result c.iter.result.rest.now 0 c.fold.result (slice_gives c.iter.result) refl c.fold.ensures.ran ∙
+    ap (λ l. word_number (ones l)) c.iter.ensures.rest
