@@ -3,7 +3,7 @@
 
 #[cfg(test)]
 mod tests {
-    use element::{Element, MARKS};
+    use element::{Element, MARKS, Place};
     use fault::Fault;
     use kinds::Route;
     use lots::Lots;
@@ -17,13 +17,8 @@ mod tests {
 
     const SETS: usize = 64;
 
-    // An answer to a question about a circuit.
-    #[derive(Clone, Copy, PartialEq, Eq, Debug)]
-    enum Answer {
-        Independent,
-        Circuit,
-        Refused { number: u8, place: u32 },
-    }
+    // An answer to a question about a circuit: a refusal by its number and its place.
+    type Answer = Result<Closing, (u8, u32)>;
 
     // An example that says by a trial which sets are independent.
     trait Trial {
@@ -38,100 +33,65 @@ mod tests {
 
     // The lot of each element, and the caps.
     #[derive(Drop)]
-    struct LotTrial([u8; N], [u32; 3]);
+    struct LotTrial([Place; N], [u32; 3]);
 
     fn has(set: u32, i: usize) -> bool {
         i < 32 && (set >> (i as u32)) % 2 == 1
     }
 
-    fn told(res: Result<Closing, Fault>) -> Answer {
-        match res {
-            Ok(closing) => match closing {
-                Closing::Independent => Answer::Independent,
-                Closing::Circuit => Answer::Circuit,
-            },
-            Err(fault) => Answer::Refused {
-                number: fault.number(),
-                place: fault.place(),
-            },
-        }
+    fn told(answer: Result<Closing, Fault>) -> Answer {
+        answer.map_err(|fault| (fault.number(), fault.place()))
     }
 
     // Whether the routes of the part touch the place an even number of times.
-    fn evenly_touched(routes: &[Route; N], part: u32, place: u8) -> bool {
-        let mut even = true;
-        for i in 0..N {
-            if has(part, i) && routes[i].from == place {
-                even = !even;
-            }
-            if has(part, i) && routes[i].to == place {
-                even = !even;
-            }
-        }
-        even
+    fn evenly_touched(routes: &[Route; N], part: u32, place: Place) -> bool {
+        let odd = routes
+            .iter()
+            .enumerate()
+            .filter(|(i, route)| has(part, *i) && (route.from == place) != (route.to == place))
+            .count();
+        odd % 2 == 0
     }
 
     fn touches_evenly(routes: &[Route; N], part: u32) -> bool {
-        for place in 0..=u8::MAX {
-            if !evenly_touched(routes, part, place) {
-                return false;
-            }
-        }
-        true
+        (0..=Place::MAX).all(|place| evenly_touched(routes, part, place))
     }
 
     // Whether the words of the part have an even number of ones at every bit.
     fn cancels(words: &[u64; N], part: u32) -> bool {
-        let mut sum = 0;
-        for i in 0..N {
-            if has(part, i) {
-                sum ^= words[i];
-            }
-        }
-        sum == 0
+        words
+            .iter()
+            .enumerate()
+            .filter(|(i, _)| has(part, *i))
+            .fold(0, |sum, (_, word)| sum ^ *word)
+            == 0
     }
 
-    fn members_in(lots: &[u8; N], set: u32, lot: u8) -> u32 {
-        let mut count: u32 = 0;
-        for i in 0..N {
-            if has(set, i) && lots[i] == lot {
-                count = count.saturating_add(1);
-            }
-        }
-        count
+    fn members_in(lots: &[Place; N], set: u32, lot: Place) -> usize {
+        lots.iter()
+            .enumerate()
+            .filter(|(i, other)| has(set, *i) && **other == lot)
+            .count()
     }
 
     impl Trial for RouteTrial {
         fn independent(&self, set: u32) -> bool {
-            for part in 1..SETS as u32 {
-                if part & set == part && touches_evenly(&self.0, part) {
-                    return false;
-                }
-            }
-            true
+            !(1..SETS as u32).any(|part| part & set == part && touches_evenly(&self.0, part))
         }
     }
 
     impl Trial for WordTrial {
         fn independent(&self, set: u32) -> bool {
-            for part in 1..SETS as u32 {
-                if part & set == part && cancels(&self.0, part) {
-                    return false;
-                }
-            }
-            true
+            !(1..SETS as u32).any(|part| part & set == part && cancels(&self.0, part))
         }
     }
 
     impl Trial for LotTrial {
         fn independent(&self, set: u32) -> bool {
-            for lot in 0..=u8::MAX {
-                let cap = self.1.get(lot as usize).copied().unwrap_or(0);
-                if members_in(&self.0, set, lot) > cap {
-                    return false;
-                }
-            }
-            true
+            (0..=Place::MAX).all(|lot| {
+                let cap = self.1.get(usize::from(lot)).copied().unwrap_or(0);
+                members_in(&self.0, set, lot) <= cap as usize
+            })
         }
     }
 
@@ -146,12 +106,10 @@ mod tests {
 
     // The first dependent part: all its smaller parts come before it, so it is a circuit.
     fn first_dependent(sets: &[bool; SETS], all: u32) -> u32 {
-        for part in 0..SETS as u32 {
-            if part & all == part && !sets[part as usize] {
-                return part;
-            }
-        }
-        0
+        (0..SETS as u32)
+            .zip(sets)
+            .find(|(part, independent)| *part & all == *part && !**independent)
+            .map_or(0, |(part, _)| part)
     }
 
     fn with(set: u32, e: usize) -> u32 {
@@ -160,21 +118,15 @@ mod tests {
 
     fn expected(sets: &[bool; SETS], set: u32, e: usize) -> Answer {
         if has(set, e) {
-            return Answer::Refused {
-                number: 15,
-                place: (e % N) as u32,
-            };
+            return Err((15, (e % N) as u32));
         }
         if !sets[set as usize % SETS] {
-            return Answer::Refused {
-                number: 16,
-                place: 0,
-            };
+            return Err((16, 0));
         }
         if sets[with(set, e) as usize % SETS] {
-            Answer::Independent
+            Ok(Closing::Independent)
         } else {
-            Answer::Circuit
+            Ok(Closing::Circuit)
         }
     }
 
@@ -188,12 +140,10 @@ mod tests {
 
     // Whether the marks show the set.
     fn shows(marks: &[bool; MARKS], set: u32) -> bool {
-        for i in 0..MARKS {
-            if marks[i] != has(set, i) {
-                return false;
-            }
-        }
-        true
+        marks
+            .iter()
+            .enumerate()
+            .all(|(i, mark)| *mark == has(set, i))
     }
 
     // Whether the answer about set and element is the expected one, and the marks show the circuit or are as before.
@@ -203,7 +153,7 @@ mod tests {
         let mut marks = marks_of(before);
         let got = told(matroid.circuit(&members, (e % N) as Element, &mut marks));
         let shown = match got {
-            Answer::Circuit => first_dependent(sets, with(set, e)),
+            Ok(Closing::Circuit) => first_dependent(sets, with(set, e)),
             _ => before,
         };
         got == expected(sets, set, e) && shows(&marks, shown)
@@ -212,14 +162,7 @@ mod tests {
     // Whether the matroid answers every question as the trial of every part does.
     fn agrees<M: Matroid, T: Trial>(matroid: &M, trial: &T) -> bool {
         let sets = independent_sets(trial);
-        for set in 0..SETS as u32 {
-            for e in 0..N {
-                if !agrees_at(matroid, &sets, set, e) {
-                    return false;
-                }
-            }
-        }
-        true
+        (0..SETS as u32).all(|set| (0..N).all(|e| agrees_at(matroid, &sets, set, e)))
     }
 
     // A triangle with a parallel route, a route from a place to itself, and a route to the last place.
@@ -264,22 +207,18 @@ mod tests {
         Ok(())
     }
 
-    fn refused(number: u8, place: u32) -> Answer {
-        Answer::Refused { number, place }
-    }
-
     #[test]
     fn routes_refuse(rt: HostRuntime) -> Result<(), Fail> {
         let matroid = Routes::new(example_routes().to_vec(rt.alloc())?)?;
         let none = [false; MARKS];
         let mut marks = [false; MARKS];
         let mut short = [false; 255];
-        assert!(rt; told(matroid.circuit(&short, 9, &mut marks)) == refused(14, 0));
-        assert!(rt; told(matroid.circuit(&none, 9, &mut short)) == refused(14, 0));
-        assert!(rt; told(matroid.circuit(&marks_of(0b1100_0000), 6, &mut marks)) == refused(8, 6));
-        assert!(rt; told(matroid.circuit(&marks_of(0b1100_0001), 0, &mut marks)) == refused(8, 6));
-        assert!(rt; told(matroid.circuit(&marks_of(0b1_0001), 0, &mut marks)) == refused(15, 0));
-        assert!(rt; told(matroid.circuit(&marks_of(0b1_0001), 1, &mut marks)) == refused(16, 0));
+        assert!(rt; told(matroid.circuit(&short, 9, &mut marks)) == Err((14, 0)));
+        assert!(rt; told(matroid.circuit(&none, 9, &mut short)) == Err((14, 0)));
+        assert!(rt; told(matroid.circuit(&marks_of(0b1100_0000), 6, &mut marks)) == Err((8, 6)));
+        assert!(rt; told(matroid.circuit(&marks_of(0b1100_0001), 0, &mut marks)) == Err((8, 6)));
+        assert!(rt; told(matroid.circuit(&marks_of(0b1_0001), 0, &mut marks)) == Err((15, 0)));
+        assert!(rt; told(matroid.circuit(&marks_of(0b1_0001), 1, &mut marks)) == Err((16, 0)));
         assert!(rt; shows(&marks, 0));
         Ok(())
     }
@@ -292,7 +231,7 @@ mod tests {
         let mut marks = [true; 300];
         set[0] = true;
         set[256] = true;
-        assert!(rt; told(matroid.circuit(&set, 1, &mut marks)) == Answer::Circuit);
+        assert!(rt; told(matroid.circuit(&set, 1, &mut marks)) == Ok(Closing::Circuit));
         assert!(rt; marks[0] && marks[1] && !marks[2] && !marks[255] && marks[256] && marks[299]);
         Ok(())
     }

@@ -92,8 +92,7 @@ const EXAMPLES: [Example; 16] = [
 
 #[test]
 fn examples(rt: HostRuntime) -> Result<(), Fail> {
-    for example in &EXAMPLES {
-        let (sheet, text) = (example.sheet, example.plan);
+    for Example { sheet, plan: text } in &EXAMPLES {
         assert!(rt;
             plan(rt.alloc(), sheet.as_bytes())?.as_slice() == text.as_bytes(),
             "{sheet}"

@@ -1,3 +1,4 @@
+use fault::Fault;
 use sheet::read;
 use std::alloc::Global;
 
@@ -110,25 +111,31 @@ const RECORDS: [Case; 17] = [
     ),
     ("routes 0\n0\n0\n0\n\n", 7, 5),
 ];
-// A number, a place and a depth.
-pub(crate) type Refusal = (u8, u32, u8);
 
-// Why the bytes are refused, or none where they are a sheet.
-pub(crate) fn refusal(heap: Global, bytes: &[u8]) -> Option<Refusal> {
-    match read(heap, bytes) {
-        Ok(_) => None,
-        Err(fault) => Some((fault.number(), fault.place(), fault.depth())),
+// What a fault says: its number, its place and its depth.
+#[derive(Clone, Copy, PartialEq, Eq, Debug)]
+pub(crate) struct Refusal(pub(crate) u8, pub(crate) u32, pub(crate) u8);
+
+impl From<Fault> for Refusal {
+    fn from(fault: Fault) -> Refusal {
+        Refusal(fault.number(), fault.place(), fault.depth())
     }
 }
 
-// The first of the texts that is not refused so.
-fn misjudged(heap: Global, cases: &[Case]) -> Option<&'static str> {
-    for (text, number, line) in cases {
-        if refusal(heap, text.as_bytes()) != Some((*number, *line, 0)) {
-            return Some(*text);
-        }
-    }
-    None
+// Why the bytes are refused, or none where they are a sheet.
+pub(crate) fn why_refused(heap: Global, bytes: &[u8]) -> Option<Refusal> {
+    read(heap, bytes).err().map(Refusal::from)
+}
+
+// Whether the text is refused as the case says.
+fn is_refused(heap: Global, case: &Case) -> bool {
+    let (text, number, line) = *case;
+    why_refused(heap, text.as_bytes()) == Some(Refusal(number, line, 0))
+}
+
+// The first of the cases that is not refused so.
+fn misjudged(heap: Global, cases: &[Case]) -> Option<&Case> {
+    cases.iter().find(|case| !is_refused(heap, case))
 }
 
 #[test]

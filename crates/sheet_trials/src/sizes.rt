@@ -1,7 +1,9 @@
-use crate::refusals::{Refusal, refusal};
+use crate::refusals::{Refusal, why_refused};
 use crate::sheets::back_again;
 use fault::Fault;
+use sheet::put_number;
 use std::alloc::{AllocError, Global};
+use std::iter::repeat_n;
 use std::test::Fail;
 use writer::Writer;
 
@@ -9,15 +11,12 @@ use writer::Writer;
 fn lamps(heap: Global, lamps: u64, elements: u64, records: u64) -> Result<Vec<u8>, Fault> {
     let mut writer = Writer::with_room(heap, 65_536)?;
     writer.put(b"words 9\n");
-    writer.number(lamps);
-    writer.byte(b'\n');
+    put_number(&mut writer, lamps, b'\n');
     for i in 0..lamps {
         writer.byte(b'x');
-        writer.number(i);
-        writer.byte(b'\n');
+        put_number(&mut writer, i, b'\n');
     }
-    writer.number(elements);
-    writer.byte(b'\n');
+    put_number(&mut writer, elements, b'\n');
     for _ in 0..elements {
         writer.put(b"r 3 5 ");
         for i in 0..lamps {
@@ -25,11 +24,10 @@ fn lamps(heap: Global, lamps: u64, elements: u64, records: u64) -> Result<Vec<u8
         }
         writer.byte(b'\n');
     }
-    writer.number(records);
-    writer.byte(b'\n');
+    put_number(&mut writer, records, b'\n');
     for i in 0..records {
-        writer.number(i);
-        writer.put(b" 4\n");
+        put_number(&mut writer, i, b' ');
+        writer.put(b"4\n");
     }
     writer.finish()
 }
@@ -40,18 +38,18 @@ const SIZES: [(u64, u64, u64, Option<Refusal>); 9] = [
     (64, 255, 255, None),
     (64, 255, 254, None),
     (1, 255, 0, None),
-    (0, 0, 0, Some((3, 2, 0))),
-    (65, 0, 0, Some((3, 2, 0))),
-    (64, 256, 0, Some((3, 67, 0))),
-    (1, 255, 256, Some((3, 260, 0))),
-    (1, 254, 255, Some((5, 514, 0))),
+    (0, 0, 0, Some(Refusal(3, 2, 0))),
+    (65, 0, 0, Some(Refusal(3, 2, 0))),
+    (64, 256, 0, Some(Refusal(3, 67, 0))),
+    (1, 255, 256, Some(Refusal(3, 260, 0))),
+    (1, 254, 255, Some(Refusal(5, 514, 0))),
 ];
 
 #[test]
 fn sizes(rt: HostRuntime) -> Result<(), Fail> {
     for (many, elements, records, answer) in &SIZES {
         let bytes = lamps(rt.alloc(), *many, *elements, *records)?;
-        assert_eq!(rt; refusal(rt.alloc(), &bytes), *answer);
+        assert_eq!(rt; why_refused(rt.alloc(), &bytes), *answer);
         if answer.is_none() {
             assert!(rt; back_again(rt.alloc(), &bytes)?);
         }
@@ -60,11 +58,9 @@ fn sizes(rt: HostRuntime) -> Result<(), Fail> {
 }
 
 // A sheet with so many bytes behind it.
-fn lengthened(heap: Global, surplus: u32) -> Result<Vec<u8>, AllocError> {
+fn lengthened(heap: Global, surplus: usize) -> Result<Vec<u8>, AllocError> {
     let mut bytes = b"routes 9\n0\n0\n0\n".to_vec(heap)?;
-    for _ in 0..surplus {
-        bytes.push(b'\n')?;
-    }
+    bytes.extend(repeat_n(b'\n', surplus))?;
     Ok(bytes)
 }
 
@@ -72,8 +68,8 @@ fn lengthened(heap: Global, surplus: u32) -> Result<Vec<u8>, AllocError> {
 fn lengths(rt: HostRuntime) -> Result<(), Fail> {
     let most = lengthened(rt.alloc(), 65_521)?;
     assert_eq!(rt; most.len(), 65_536);
-    assert_eq!(rt; refusal(rt.alloc(), &most), Some((7, 5, 0)));
+    assert_eq!(rt; why_refused(rt.alloc(), &most), Some(Refusal(7, 5, 0)));
     let more = lengthened(rt.alloc(), 65_522)?;
-    assert_eq!(rt; refusal(rt.alloc(), &more), Some((1, 0, 0)));
+    assert_eq!(rt; why_refused(rt.alloc(), &more), Some(Refusal(1, 0, 0)));
     Ok(())
 }

@@ -1,3 +1,4 @@
+use crate::refusals::Refusal;
 use element::Place;
 use entry::Entry;
 use fault::Fault;
@@ -13,37 +14,46 @@ const TEXTS: [&'static str; 3] = [
 ];
 
 fn has_routes(body: &Body<&[u8], Route>) -> bool {
-    if body.places.len() != 3 || body.elements.len() != 3 || body.recorded.len() != 3 {
+    let ([_, _, place], [_, _, line], [_, _, record]) = (
+        body.places.as_slice(),
+        body.elements.as_slice(),
+        body.recorded.as_slice(),
+    ) else {
         return false;
-    }
-    let (entry, route) = (body.elements[2].entry, body.elements[2].tail);
+    };
     body.allowance == 9
-        && body.places[2] == b"c".as_slice()
-        && (entry.low(), entry.high(), entry.is_known()) == (4, 9, false)
-        && (route.from, route.to) == (0, 2)
-        && (body.recorded[2].element, body.recorded[2].price) == (2, 5)
+        && *place == b"c".as_slice()
+        && (line.entry.low(), line.entry.high(), line.entry.is_known()) == (4, 9, false)
+        && (line.tail.from, line.tail.to) == (0, 2)
+        && (record.element, record.price) == (2, 5)
 }
 
 fn has_lots(body: &Body<Lot, Place>) -> bool {
-    if body.places.len() != 2 || body.elements.len() != 1 || !body.recorded.is_empty() {
+    let ([_, lot], [line], []) = (
+        body.places.as_slice(),
+        body.elements.as_slice(),
+        body.recorded.as_slice(),
+    ) else {
         return false;
-    }
-    let entry = body.elements[0].entry;
+    };
     body.allowance == 2
-        && body.places[1].name == b"path".as_slice()
-        && (body.places[1].cap, body.elements[0].tail) == (7, 1)
-        && (entry.low(), entry.high(), entry.is_known()) == (5, 5, true)
+        && lot.name == b"path".as_slice()
+        && (lot.cap, line.tail) == (7, 1)
+        && (line.entry.low(), line.entry.high(), line.entry.is_known()) == (5, 5, true)
 }
 
 fn has_words(body: &Body<&[u8], &[u8]>) -> bool {
-    if body.places.len() != 2 || body.elements.len() != 1 || !body.recorded.is_empty() {
+    let ([_, lamp], [line], []) = (
+        body.places.as_slice(),
+        body.elements.as_slice(),
+        body.recorded.as_slice(),
+    ) else {
         return false;
-    }
-    let entry = body.elements[0].entry;
+    };
     body.allowance == 3
-        && body.places[1] == b"blue".as_slice()
-        && body.elements[0].tail == b"01".as_slice()
-        && (entry.low(), entry.high(), entry.is_known()) == (3, 5, false)
+        && *lamp == b"blue".as_slice()
+        && line.tail == b"01".as_slice()
+        && (line.entry.low(), line.entry.high(), line.entry.is_known()) == (3, 5, false)
 }
 
 fn has_values(sheet: &Sheet) -> bool {
@@ -63,25 +73,28 @@ fn reads(rt: HostRuntime) -> Result<(), Fail> {
     Ok(())
 }
 
-// A fault, with its number, its place and its depth.
-const FAULTS: [(Fault, u8, u32, u8); 17] = [
-    (Fault::NoMemory, 0, 0, 0),
-    (Fault::SheetTooLong, 1, 0, 0),
-    (Fault::Malformed { line: 1 }, 2, 1, 0),
-    (Fault::CountBeyondLimit { line: 2 }, 3, 2, 0),
-    (Fault::LowNotBelowHigh { line: 70 }, 4, 70, 0),
-    (Fault::NamesNothing { line: 768 }, 5, 768, 0),
-    (Fault::NotRising { line: 4294967295 }, 6, 4294967295, 0),
-    (Fault::Surplus { line: 14 }, 7, 14, 0),
-    (Fault::NoSuchElement { element: 255 }, 8, 255, 0),
-    (Fault::AlreadyKnown { element: 9 }, 9, 9, 0),
-    (PRICE_OUTSIDE, 10, 3, 2),
-    (NO_PRICE, 11, 4, 1),
-    (ALLOWANCE_SPENT, 12, 1, 255),
-    (Fault::NotSettled, 13, 0, 0),
-    (Fault::TooFewMarks, 14, 0, 0),
-    (Fault::AlreadyInSet { element: 6 }, 15, 6, 0),
-    (Fault::DependentSet, 16, 0, 0),
+// A fault, and what it says.
+const FAULTS: [(Fault, Refusal); 17] = [
+    (Fault::NoMemory, Refusal(0, 0, 0)),
+    (Fault::SheetTooLong, Refusal(1, 0, 0)),
+    (Fault::Malformed { line: 1 }, Refusal(2, 1, 0)),
+    (Fault::CountBeyondLimit { line: 2 }, Refusal(3, 2, 0)),
+    (Fault::LowNotBelowHigh { line: 70 }, Refusal(4, 70, 0)),
+    (Fault::NamesNothing { line: 768 }, Refusal(5, 768, 0)),
+    (
+        Fault::NotRising { line: 4294967295 },
+        Refusal(6, 4294967295, 0),
+    ),
+    (Fault::Surplus { line: 14 }, Refusal(7, 14, 0)),
+    (Fault::NoSuchElement { element: 255 }, Refusal(8, 255, 0)),
+    (Fault::AlreadyKnown { element: 9 }, Refusal(9, 9, 0)),
+    (PRICE_OUTSIDE, Refusal(10, 3, 2)),
+    (NO_PRICE, Refusal(11, 4, 1)),
+    (ALLOWANCE_SPENT, Refusal(12, 1, 255)),
+    (Fault::NotSettled, Refusal(13, 0, 0)),
+    (Fault::TooFewMarks, Refusal(14, 0, 0)),
+    (Fault::AlreadyInSet { element: 6 }, Refusal(15, 6, 0)),
+    (Fault::DependentSet, Refusal(16, 0, 0)),
 ];
 
 const PRICE_OUTSIDE: Fault = Fault::PriceOutside {
@@ -101,9 +114,9 @@ const ALLOWANCE_SPENT: Fault = Fault::AllowanceSpent {
 
 #[test]
 fn faults(rt: HostRuntime) -> Result<(), Fail> {
-    for (fault, number, place, depth) in &FAULTS {
-        let told = (fault.number(), fault.place(), fault.depth());
-        assert_eq!(rt; told, (*number, *place, *depth));
+    for (fault, told) in &FAULTS {
+        assert_eq!(rt; Refusal::from(*fault), *told);
+        let Refusal(number, place, depth) = *told;
         let shown = fault.to_string(rt.alloc())?;
         let text = format!(in rt.alloc(); "refusal {number} at place {place}, depth {depth}")?;
         assert_eq!(rt; shown.as_str(), text.as_str());
@@ -113,29 +126,27 @@ fn faults(rt: HostRuntime) -> Result<(), Fail> {
     Ok(())
 }
 
-// Two ends, and the number of the refusal; 0 for a range.
-const ENDS: [(u32, u32, u8); 6] = [
-    (3, 4, 0),
-    (0, 4294967295, 0),
-    (4294967294, 4294967295, 0),
-    (5, 5, 4),
-    (6, 5, 4),
-    (4294967295, 0, 4),
+// Two ends, and the refusal; none for a range.
+const ENDS: [(u32, u32, Option<Refusal>); 6] = [
+    (3, 4, None),
+    (0, 4294967295, None),
+    (4294967294, 4294967295, None),
+    (5, 5, Some(Refusal(4, 0, 0))),
+    (6, 5, Some(Refusal(4, 0, 0))),
+    (4294967295, 0, Some(Refusal(4, 0, 0))),
 ];
 
 #[test]
 fn ranges(rt: HostRuntime) -> Result<(), Fail> {
-    for (low, high, number) in &ENDS {
+    for (low, high, refusal) in &ENDS {
         match Entry::range(*low, *high) {
             Ok(entry) => {
-                assert_eq!(rt; (entry.low(), entry.high(), 0), (*low, *high, *number));
+                assert_eq!(rt; *refusal, None);
+                assert_eq!(rt; (entry.low(), entry.high()), (*low, *high));
                 assert!(rt; !entry.is_known());
                 assert!(rt; !entry.admits(*low) && !entry.admits(*high));
             }
-            Err(fault) => assert_eq!(rt;
-                (fault.number(), fault.place(), fault.depth()),
-                (*number, 0, 0)
-            ),
+            Err(fault) => assert_eq!(rt; Some(Refusal::from(fault)), *refusal),
         }
     }
     let entry = Entry::range(3, 5)?;

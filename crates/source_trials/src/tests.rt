@@ -8,7 +8,7 @@ use layers::{Memory, Quota};
 use source::{Record, Source, Table};
 use std::test::Fail;
 
-// A source that has nothing but a depth.
+// A source that has nothing but a depth. (Trials of surveys have one of their own: a source for both would be a crate more.)
 #[derive(Drop)]
 struct Bare {
     depth: u8,
@@ -45,18 +45,19 @@ impl Source for Bare {
 
 // Whether the answer is the price.
 fn gives(answer: Result<Price, Fault>, price: Price) -> bool {
-    match answer {
-        Ok(given) => given == price,
-        Err(_) => false,
-    }
+    answer.is_ok_and(|given| given == price)
 }
 
+// A number, a place and a depth: the numbers are what is tested here.
+type Refusal = (u8, u32, u8);
+
 // Whether the answer is the refusal.
-fn refuses(answer: Result<Price, Fault>, number: u8, place: u32, depth: u8) -> bool {
-    match answer {
-        Ok(_) => false,
-        Err(fault) => (fault.number(), fault.place(), fault.depth()) == (number, place, depth),
-    }
+fn refuses(answer: Result<Price, Fault>, refusal: Refusal) -> bool {
+    answer.is_err_and(|fault| (fault.number(), fault.place(), fault.depth()) == refusal)
+}
+
+fn line(element: Element, price: Price) -> Line {
+    Line { element, price }
 }
 
 // A table with prices for 3 and 4.
@@ -71,24 +72,15 @@ fn two_prices() -> Table {
 fn plain_sources(rt: HostRuntime) -> Result<(), Fail> {
     let mut table = two_prices();
     assert!(rt; gives(table.price(3), 7));
-    assert!(rt; refuses(table.price(255), 11, 255, 0));
+    assert!(rt; refuses(table.price(255), (11, 255, 0)));
     table.set(3, None);
-    assert!(rt; refuses(table.price(3), 11, 3, 0));
+    assert!(rt; refuses(table.price(3), (11, 3, 0)));
     assert_eq!(rt; table.left(), None);
     assert!(rt; !table.free(4));
-    let lines = [
-        Line {
-            element: 2,
-            price: 5,
-        },
-        Line {
-            element: 6,
-            price: 0,
-        },
-    ];
+    let lines = [line(2, 5), line(6, 0)];
     let mut record = Record::new(&lines);
     assert!(rt; gives(record.price(6), 0));
-    assert!(rt; refuses(record.price(3), 11, 3, 0));
+    assert!(rt; refuses(record.price(3), (11, 3, 0)));
     assert!(rt; gives(record.price(2), 5));
     assert_eq!(rt; record.depth(), 0);
     Ok(())
@@ -102,30 +94,21 @@ fn memory_over_quota_over_table(rt: HostRuntime) -> Result<(), Fail> {
     assert_eq!(rt; memory.left(), Some(0));
     assert!(rt; memory.free(3) && !memory.free(4));
     assert!(rt; gives(memory.price(3), 7), "a remembered price is free");
-    assert!(rt; refuses(memory.price(4), 12, 4, 1), "a fresh one is not");
+    assert!(rt; refuses(memory.price(4), (12, 4, 1)), "a fresh one is not");
     assert_eq!(rt; memory.into_below().number(), 0);
     Ok(())
 }
 
 #[test]
 fn quota_over_memory_over_record(rt: HostRuntime) -> Result<(), Fail> {
-    let lines = [
-        Line {
-            element: 2,
-            price: 5,
-        },
-        Line {
-            element: 6,
-            price: 8,
-        },
-    ];
+    let lines = [line(2, 5), line(6, 8)];
     let mut quota = Quota::new(Memory::new(Record::new(&lines)), 1);
     assert!(rt; gives(quota.price(2), 5));
     assert_eq!(rt; quota.left(), Some(0));
     assert!(rt; gives(quota.price(2), 5), "free below");
-    assert!(rt; refuses(quota.price(9), 12, 9, 2));
+    assert!(rt; refuses(quota.price(9), (12, 9, 2)));
     quota.raise(1);
-    assert!(rt; refuses(quota.price(9), 11, 9, 0));
+    assert!(rt; refuses(quota.price(9), (11, 9, 0)));
     assert_eq!(rt; quota.number(), 1, "a refusal costs nothing");
     assert!(rt; gives(quota.price(6), 8));
     assert_eq!(rt; quota.number(), 0);
@@ -138,10 +121,13 @@ fn quotas_over_quotas(rt: HostRuntime) -> Result<(), Fail> {
     assert_eq!(rt; quota.left(), Some(1));
     assert!(rt; gives(quota.price(4), 9));
     assert_eq!(rt; quota.number(), 2);
-    assert!(rt; refuses(quota.price(3), 12, 3, 1), "the one below refuses");
+    assert!(rt;
+        refuses(quota.price(3), (12, 3, 1)),
+        "the one below refuses"
+    );
     assert_eq!(rt; quota.into_below().number(), 0);
     let mut narrow = Quota::new(Quota::new(two_prices(), 3), 0);
-    assert!(rt; refuses(narrow.price(3), 12, 3, 2));
+    assert!(rt; refuses(narrow.price(3), (12, 3, 2)));
     assert_eq!(rt; narrow.into_below().number(), 3);
     Ok(())
 }
@@ -150,10 +136,10 @@ fn quotas_over_quotas(rt: HostRuntime) -> Result<(), Fail> {
 fn depth_stays_at_255(rt: HostRuntime) -> Result<(), Fail> {
     let mut low = Memory::new(Bare { depth: 254 });
     assert_eq!(rt; low.depth(), 255);
-    assert!(rt; refuses(low.price(1), 11, 1, 254));
+    assert!(rt; refuses(low.price(1), (11, 1, 254)));
     let mut high = Quota::new(low, 0);
     assert_eq!(rt; high.depth(), 255);
-    assert!(rt; refuses(high.price(1), 12, 1, 255));
+    assert!(rt; refuses(high.price(1), (12, 1, 255)));
     assert_eq!(rt; Memory::new(high).depth(), 255);
     Ok(())
 }

@@ -84,12 +84,12 @@ fn quota(third: Price, number: u32) -> Quota<Table> {
     Quota::new(prices(4, 6, third), number)
 }
 
+// A number, a place and a depth: the numbers are what is tested here.
+type Refusal = (u8, u32, u8);
+
 // Whether the answer is the refusal.
-fn refuses<T: Drop>(answer: Result<T, Fault>, number: u8, place: u32, depth: u8) -> bool {
-    match answer {
-        Ok(_) => false,
-        Err(fault) => (fault.number(), fault.place(), fault.depth()) == (number, place, depth),
-    }
+fn refuses<T: Drop>(answer: Result<T, Fault>, refusal: Refusal) -> bool {
+    answer.is_err_and(|fault| (fault.number(), fault.place(), fault.depth()) == refusal)
 }
 
 // Whether a step pays the price for the element.
@@ -108,14 +108,8 @@ fn step_rests<S: Source>(survey: &mut Survey<Routes>, source: &mut S) -> Result<
 }
 
 // Whether a step is refused so.
-fn step_refuses<S: Source>(
-    survey: &mut Survey<Routes>,
-    source: &mut S,
-    number: u8,
-    place: u32,
-    depth: u8,
-) -> bool {
-    refuses(survey.step(source), number, place, depth)
+fn step_refuses<S: Source>(survey: &mut Survey<Routes>, source: &mut S, refusal: Refusal) -> bool {
+    refuses(survey.step(source), refusal)
 }
 
 // Checks that a run comes to its end.
@@ -124,42 +118,37 @@ fn run_finishes<S: Source>(survey: &mut Survey<Routes>, source: &mut S) -> Resul
 }
 
 // Whether a run is refused so.
-fn run_refuses<S: Source>(
-    survey: &mut Survey<Routes>,
-    source: &mut S,
-    number: u8,
-    place: u32,
-    depth: u8,
-) -> bool {
-    refuses(survey.run(source), number, place, depth)
+fn run_refuses<S: Source>(survey: &mut Survey<Routes>, source: &mut S, refusal: Refusal) -> bool {
+    refuses(survey.run(source), refusal)
 }
 
 // Whether a report into marks that are all set is refused so, and leaves them.
 fn report_refuses(survey: &Survey<Routes>, marks: &mut [bool], number: u8) -> bool {
-    refuses(survey.report(marks), number, 0, 0) && marks.iter().all(|mark| *mark)
+    refuses(survey.report(marks), (number, 0, 0)) && marks.iter().all(|mark| *mark)
 }
 
 // Whether this is the whole ledger, and no line follows it.
 fn has_paid(survey: &Survey<Routes>, lines: &[(Element, Price)]) -> bool {
-    for i in 0..lines.len() {
-        let (element, price) = lines[i];
-        if survey.line(i) != Some(Line { element, price }) {
-            return false;
-        }
-    }
-    survey.ledger().len() == lines.len() && survey.line(lines.len()).is_none()
+    let paid = |(i, line): (usize, &(Element, Price))| {
+        let (element, price) = *line;
+        survey.line(i) == Some(Line { element, price })
+    };
+    lines.iter().enumerate().all(paid)
+        && survey.ledger().len() == lines.len()
+        && survey.line(lines.len()).is_none()
 }
 
 // Whether this is the base that is shown, and the mark beyond those of a set stays.
 fn keeps(survey: &Survey<Routes>, kept: [bool; 3]) -> Result<bool, Fault> {
     let mut marks = [true; 257];
     survey.report(&mut marks)?;
-    for (i, mark) in marks.iter().enumerate() {
-        if *mark != (i == MARKS || i < 3 && kept[i]) {
-            return Ok(false);
-        }
-    }
-    Ok(true)
+    let expected = |i: usize| i == MARKS || kept.get(i).copied().unwrap_or(false);
+    Ok(
+        marks
+            .iter()
+            .enumerate()
+            .all(|(i, mark)| *mark == expected(i)),
+    )
 }
 
 #[test]
@@ -175,7 +164,7 @@ fn three_pits(rt: HostRuntime) -> Result<(), Fail> {
 #[test]
 fn allowance_of_two(rt: HostRuntime) -> Result<(), Fail> {
     let mut survey = survey_of_triangle(rt.alloc())?;
-    assert!(rt; run_refuses(&mut survey, &mut quota(5, 2), 12, 1, 1));
+    assert!(rt; run_refuses(&mut survey, &mut quota(5, 2), (12, 1, 1)));
     assert!(rt; has_paid(&survey, &[(2, 5), (0, 4)]));
     assert!(rt; report_refuses(&survey, &mut [true; MARKS], 13));
     run_finishes(&mut survey, &mut quota(5, 1))?;
@@ -204,9 +193,9 @@ fn pending_kept_over_refusals(rt: HostRuntime) -> Result<(), Fail> {
     let mut survey = survey_of_triangle(rt.alloc())?;
     let mut source = quota(5, 1);
     assert!(rt; step_pays(&mut survey, &mut source, 2, 5)?);
-    assert!(rt; step_refuses(&mut survey, &mut source, 12, 0, 1));
-    assert!(rt; step_refuses(&mut survey, &mut prices(6, 6, 5), 10, 0, 1));
-    assert!(rt; run_refuses(&mut survey, &mut Table::new(), 11, 0, 0));
+    assert!(rt; step_refuses(&mut survey, &mut source, (12, 0, 1)));
+    assert!(rt; step_refuses(&mut survey, &mut prices(6, 6, 5), (10, 0, 1)));
+    assert!(rt; run_refuses(&mut survey, &mut Table::new(), (11, 0, 0)));
     assert!(rt; has_paid(&survey, &[(2, 5)]));
     source.raise(1);
     assert!(rt; step_pays(&mut survey, &mut source, 0, 4)?);
@@ -231,14 +220,14 @@ fn pending_noted(rt: HostRuntime) -> Result<(), Fail> {
 #[test]
 fn notes(rt: HostRuntime) -> Result<(), Fail> {
     let mut survey = survey_of_triangle(rt.alloc())?;
-    assert!(rt; refuses(survey.note(0, 2), 10, 0, 0));
-    assert!(rt; refuses(survey.note(0, 6), 10, 0, 0));
-    assert!(rt; refuses(survey.note(1, 8), 10, 1, 0));
-    assert!(rt; refuses(survey.note(3, 4), 8, 3, 0));
+    assert!(rt; refuses(survey.note(0, 2), (10, 0, 0)));
+    assert!(rt; refuses(survey.note(0, 6), (10, 0, 0)));
+    assert!(rt; refuses(survey.note(1, 8), (10, 1, 0)));
+    assert!(rt; refuses(survey.note(3, 4), (8, 3, 0)));
     assert!(rt; !survey.entry(0).is_known());
     survey.note(0, 3)?;
     assert!(rt; survey.entry(0).is_known() && survey.entry(0).low() == 3);
-    assert!(rt; refuses(survey.note(0, 3), 9, 0, 0));
+    assert!(rt; refuses(survey.note(0, 3), (9, 0, 0)));
     assert!(rt; has_paid(&survey, &[]));
     Ok(())
 }
@@ -248,10 +237,10 @@ fn notes(rt: HostRuntime) -> Result<(), Fail> {
 fn prices_at_ends(rt: HostRuntime) -> Result<(), Fail> {
     let mut survey = survey_of_triangle(rt.alloc())?;
     let mut pile = Memory::new(quota(4, 1));
-    assert!(rt; run_refuses(&mut survey, &mut pile, 10, 2, 3));
+    assert!(rt; run_refuses(&mut survey, &mut pile, (10, 2, 3)));
     assert_eq!(rt; pile.left(), Some(0));
-    assert!(rt; step_refuses(&mut survey, &mut Uniform { price: 9 }, 10, 2, 255));
-    assert!(rt; step_refuses(&mut survey, &mut Table::new(), 11, 2, 0));
+    assert!(rt; step_refuses(&mut survey, &mut Uniform { price: 9 }, (10, 2, 255)));
+    assert!(rt; step_refuses(&mut survey, &mut Table::new(), (11, 2, 0)));
     assert!(rt; !survey.entry(2).is_known());
     assert!(rt; has_paid(&survey, &[]));
     Ok(())
@@ -307,7 +296,7 @@ fn nothing_at_all(rt: HostRuntime) -> Result<(), Fail> {
     account.answer?;
     account.report?;
     let mut survey = account.survey;
-    assert!(rt; refuses(survey.note(0, 4), 8, 0, 0));
+    assert!(rt; refuses(survey.note(0, 4), (8, 0, 0)));
     assert!(rt; step_rests(&mut survey, &mut Table::new())?);
     assert!(rt; keeps(&survey, [false, false, false])?);
     Ok(())
@@ -348,8 +337,8 @@ fn requests_refused(rt: HostRuntime) -> Result<(), Fail> {
     let mut marks = [false; 255];
     let matroid = triangle(rt.alloc())?;
     let account = conduct(rt.alloc(), matroid, &ranges()?, &mut requests, &mut marks)?;
-    assert!(rt; refuses(account.answer, 12, 0, 1));
-    assert!(rt; refuses(account.report, 14, 0, 0));
+    assert!(rt; refuses(account.answer, (12, 0, 1)));
+    assert!(rt; refuses(account.report, (14, 0, 0)));
     assert!(rt; has_paid(&account.survey, &[(2, 5)]));
     match &requests[1] {
         Request::Step(source) => {
