@@ -1,7 +1,8 @@
 -- What the code's reader does, in the words of the form. Assumes nothing.
-use Rattle.std.specs.Prelude.{◌≡◌, ℕ, ◌+◌, ◌<◌, ◌≤◌, false, cond, List, [], length, Some, None, Ok, Err, vec_items, vec_capacity, MatchBool, Option, Result, ◌==◌, nat_eq}
+use Rattle.std.specs.Prelude.{◌≡◌, ℕ, ◌+◌, ◌<◌, ◌≤◌, false, cond, List, [], length, Some, None, Ok, Err, vec_items, vec_capacity, MatchBool, ◌⊎◌, Option, Result, ◌==◌, nat_eq}
 use Rattle.std.specs.Borrow.{Bor}
 use Rattle.fault.specs.declared.Fault.{Fault}
+use Rattle.fault.specs.declared.Fault.TheVariants.{Malformed}
 use Rattle.fault.specs.Refusals.{refusal}
 use Rattle.entry.specs.Entries.{Entry, Known, Range}
 use Rattle.form.specs.Reading.{Got, got, stop, Step, ◌>>=◌, done, cut, Tail, checked}
@@ -35,6 +36,11 @@ pub record Stops {A : Type 0} (g : Got A) (f : Fault) : Type 0 where
 abbrev pub Reads : {X A : Type 0} → (X → A) → Step A → Reader → Result X Fault → Reader → Type 0
 Reads value s old (Ok x) new = s (left old) old.line ≡ got (value x) (left new) new.line
 Reads value s old (Err f) new = Stops (s (left old) old.line) f
+
+-- r is what `post` allows of the field before the first byte c; or a refusal, where no byte is c or `post` allows none of it
+abbrev pub Fielded : {V : Type 0} → (Bor (List ℕ) → Option V → Type 0) → ℕ → Reader → Result V Fault → Reader → Type 0
+Fielded {V} post c old (Ok v) new = (w : Bor (List ℕ)) × Cut (Some w) c old new × post w (Some v)
+Fielded {V} post c old (Err f) new = (f ≡ Malformed old.line) × ((cut c (left old) ≡ None) ⊎ ((w : Bor (List ℕ)) × Cut (Some w) c old new × post w None))
 
 -- an entry as it is written
 abbrev pub raw_of : RawEntry → Entry

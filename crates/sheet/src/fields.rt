@@ -1,127 +1,47 @@
 // What the bytes of one field hold.
-ghost use Rattle.std.specs.Prelude.{◌≡◌, ℕ, Bool, List, Option as Maybe};
-ghost use Rattle.form.specs.declared.Kind.{Kind as AKind};
-ghost use Rattle.form.specs.declared.Letter.{Letter as ALetter};
+ghost use Rattle.std.specs.Prelude.{◌≡◌};
 ghost use Rattle.form.specs.Sheets.{is_name, name_byte};
-ghost use Rattle.form.specs.Reading.{number as a_number, price as a_price, name as a_name, kind as a_kind, letter as a_letter, word as a_word};
+ghost use Rattle.form.specs.Reading.{number as a_number, name as a_name, kind as a_kind, letter as a_letter, word as a_word};
 ghost use Rattle.sheet.specs.Code.{valued, bytes, word_of, is_word, is_bit};
 
 use element::Place;
 use form::{Kind, Letter};
 
-// How a field is read.
-pub trait Field<'a> {
-    type Value: Drop;
-
-    ghost model: { Type 0 };
-
-    ghost value: { Self.Value → model };
-
-    ghost reads: { Self → List ℕ → Maybe model };
-
-    fn of(&self, field: &'a [u8]) -> Option<Self::Value>
-        ensures { valued value result ≡ reads self.now field.now };
-}
-
-// A count, a cap, an allowance, a price, or the number of a place, a lot or an element.
-#[derive(Clone, Copy)]
-pub struct Numeral;
-
-impl<'a> Field<'a> for Numeral {
-    type Value = u32;
-
-    ghost model = { ℕ };
-
-    ghost value = { λ n. n };
-
-    ghost reads = { λ _. a_number };
-
-    fn of(&self, field: &'a [u8]) -> Option<u32> {
-        number_in(field)
-    }
-}
-
 // The name of a place, a lot or a lamp.
-#[derive(Clone, Copy)]
-pub struct Title;
-
-impl<'a> Field<'a> for Title {
-    type Value = &'a [u8];
-
-    ghost model = { List ℕ };
-
-    ghost value = { bytes };
-
-    ghost reads = { λ _. a_name };
-
-    fn of(&self, field: &'a [u8]) -> Option<&'a [u8]> {
-        is_name(field).then_some(field)
-    }
+pub fn name_in<'a>(field: &'a [u8]) -> Option<&'a [u8]>
+    ensures { valued bytes result ≡ a_name field.now }
+{
+    is_name(field).then_some(field)
 }
 
-// The word that names the kind of a sheet.
-#[derive(Clone, Copy)]
-pub struct KindWord;
-
-impl<'a> Field<'a> for KindWord {
-    type Value = Kind;
-
-    ghost model = { AKind };
-
-    ghost value = { λ k. k };
-
-    ghost reads = { λ _. a_kind };
-
-    fn of(&self, field: &'a [u8]) -> Option<Kind> {
-        match field {
-            b"routes" => Some(Kind::Routes),
-            b"lots" => Some(Kind::Lots),
-            b"words" => Some(Kind::Words),
-            _ => None,
-        }
+// The kind of a sheet that the word names.
+pub fn kind_in(field: &[u8]) -> Option<Kind>
+    ensures { result ≡ a_kind field.now }
+{
+    match field {
+        b"routes" => Some(Kind::Routes),
+        b"lots" => Some(Kind::Lots),
+        b"words" => Some(Kind::Words),
+        _ => None,
     }
 }
 
 // The letter that an element's line starts with.
-#[derive(Clone, Copy)]
-pub struct EntryLetter;
-
-impl<'a> Field<'a> for EntryLetter {
-    type Value = Letter;
-
-    ghost model = { ALetter };
-
-    ghost value = { λ l. l };
-
-    ghost reads = { λ _. a_letter };
-
-    fn of(&self, field: &'a [u8]) -> Option<Letter> {
-        match field {
-            [b'k'] => Some(Letter::K),
-            [b'r'] => Some(Letter::R),
-            _ => None,
-        }
+pub fn letter_in(field: &[u8]) -> Option<Letter>
+    ensures { result ≡ a_letter field.now }
+{
+    match field {
+        [b'k'] => Some(Letter::K),
+        [b'r'] => Some(Letter::R),
+        _ => None,
     }
 }
 
 // One letter 0 or 1 for each lamp.
-#[derive(Clone, Copy)]
-pub struct Bits {
-    pub lamps: Place,
-}
-
-impl<'a> Field<'a> for Bits {
-    type Value = &'a [u8];
-
-    ghost model = { List Bool };
-
-    ghost value = { word_of };
-
-    ghost reads = { λ f. a_word f.lamps };
-
-    fn of(&self, field: &'a [u8]) -> Option<&'a [u8]> {
-        is_word(field, self.lamps).then_some(field)
-    }
+pub fn word_in<'a>(field: &'a [u8], lamps: Place) -> Option<&'a [u8]>
+    ensures { valued word_of result ≡ a_word lamps field.now }
+{
+    is_word(field, lamps).then_some(field)
 }
 
 fn is_name_byte(b: u8) -> bool
@@ -150,8 +70,8 @@ fn is_word(field: &[u8], lamps: Place) -> bool
     field.len() == usize::from(lamps) && field.iter().all(|b| is_bit(*b))
 }
 
-// The number that digits write: no leading zero, at most 4294967295.
-fn number_in(field: &[u8]) -> Option<u32>
+// A count, a cap, an allowance, a price, or the number of a place, a lot or an element: no leading zero, at most 4294967295.
+pub fn number_in(field: &[u8]) -> Option<u32>
     ensures { result ≡ a_number field.now }
 {
     if field.is_empty() {

@@ -8,7 +8,7 @@ ghost use Rattle.writer.specs.Written.{Wrote};
 ghost use Rattle.sheet.specs.Code.{bytes, element_of, itself, lot_of, record_of, route_of, valued, word_of};
 ghost use Rattle.sheet.specs.Readers.{Reads, before_of, raw_of, room, seen};
 
-use crate::fields::{Bits, Numeral};
+use crate::fields::{number_in, word_in};
 use crate::reader::{RawEntry, Reader};
 use crate::values::{ElementLine, Lot};
 use crate::writing::{put_entry, put_field, put_number, put_word};
@@ -16,39 +16,27 @@ use element::{Element, Line, Place};
 use entry::Entry;
 use fault::Fault;
 use kinds::Route;
-use std::marker::PhantomData;
 use writer::Writer;
 
-// What a line of a section holds, and how it is read, where `before` is the line before it.
-pub trait Row<'a> {
-    type Item: Drop;
-
+// A line of a section, and how it is read, where the section above has `above` lines and `before` is the line before it.
+pub trait Row<'a>: Sized + Drop {
     ghost model: { Type 0 };
 
-    ghost value: { Self.Item → model };
+    ghost value: { Self → model };
 
-    ghost step: { Self → Maybe model → Step model };
+    ghost step: { ℕ → Maybe model → Step model };
 
     ghost text: { model → List ℕ };
 
-    fn read(
-        &self,
-        reader: &mut Reader<'a>,
-        before: Option<&Self::Item>,
-    ) -> Result<Self::Item, Fault>
-        ensures { Reads value (step self.now (before_of value before.entry)) reader.old result reader.new };
+    fn read(reader: &mut Reader<'a>, above: u8, before: Option<&Self>) -> Result<Self, Fault>
+        ensures { Reads value (step above (before_of value before.entry)) reader.old result reader.new };
 
-    fn write(writer: &mut Writer, item: &Self::Item)
-        ensures { Wrote writer.old (text (value item.now)) writer.new };
+    fn write(&self, writer: &mut Writer)
+        ensures { Wrote writer.old (text (value self.now)) writer.new };
 }
 
 // Places and lamps: a name each.
-#[derive(Clone, Copy)]
-pub struct NameRow;
-
-impl<'a> Row<'a> for NameRow {
-    type Item = &'a [u8];
-
+impl<'a> Row<'a> for &'a [u8] {
     ghost model = { List ℕ };
 
     ghost value = { bytes };
@@ -57,22 +45,21 @@ impl<'a> Row<'a> for NameRow {
 
     ghost text = { ended };
 
-    fn read(&self, reader: &mut Reader<'a>, _before: Option<&&'a [u8]>) -> Result<&'a [u8], Fault> {
+    fn read(
+        reader: &mut Reader<'a>,
+        _above: u8,
+        _before: Option<&&'a [u8]>,
+    ) -> Result<&'a [u8], Fault> {
         reader.name_line()
     }
 
-    fn write(writer: &mut Writer, item: &&'a [u8]) {
-        put_field(writer, item, b'\n');
+    fn write(&self, writer: &mut Writer) {
+        put_field(writer, self, b'\n');
     }
 }
 
 // Lots: a name and a cap each.
-#[derive(Clone, Copy)]
-pub struct LotRow;
-
-impl<'a> Row<'a> for LotRow {
-    type Item = Lot<'a>;
-
+impl<'a> Row<'a> for Lot<'a> {
     ghost model = { List ℕ × ℕ };
 
     ghost value = { lot_of };
@@ -81,13 +68,17 @@ impl<'a> Row<'a> for LotRow {
 
     ghost text = { lot_text };
 
-    fn read(&self, reader: &mut Reader<'a>, _before: Option<&Lot<'a>>) -> Result<Lot<'a>, Fault> {
+    fn read(
+        reader: &mut Reader<'a>,
+        _above: u8,
+        _before: Option<&Lot<'a>>,
+    ) -> Result<Lot<'a>, Fault> {
         reader.lot_line()
     }
 
-    fn write(writer: &mut Writer, item: &Lot<'a>) {
-        put_field(writer, item.name, b' ');
-        put_number(writer, item.cap, b'\n');
+    fn write(&self, writer: &mut Writer) {
+        put_field(writer, self.name, b' ');
+        put_number(writer, self.cap, b'\n');
     }
 }
 
@@ -105,28 +96,21 @@ fn is_above(before: Option<&Line>, element: Element) -> bool
     before.is_none_or(|last| last.element < element)
 }
 
-// Recorded prices: an element and a price each, where there are so many elements.
-#[derive(Clone, Copy)]
-pub struct RecordRow {
-    pub elements: Element,
-}
-
-impl<'a> Row<'a> for RecordRow {
-    type Item = Line;
-
+// Recorded prices: an element and a price each.
+impl<'a> Row<'a> for Line {
     ghost model = { ℕ × ℕ };
 
     ghost value = { record_of };
 
-    ghost step = { λ f before. recorded_line f.elements before };
+    ghost step = { recorded_line };
 
     ghost text = { recorded_text };
 
-    fn read(&self, reader: &mut Reader<'a>, before: Option<&Line>) -> Result<Line, Fault> {
-        let number = reader.field(&Numeral, b' ')?;
-        let price = reader.field(&Numeral, b'\n')?;
+    fn read(reader: &mut Reader<'a>, above: u8, before: Option<&Line>) -> Result<Line, Fault> {
+        let number = reader.field(number_in, b' ')?;
+        let price = reader.field(number_in, b'\n')?;
         let line = reader.line;
-        let element = below(number, self.elements).ok_or(Fault::NamesNothing { line })?;
+        let element = below(number, above).ok_or(Fault::NamesNothing { line })?;
         if !is_above(before, element) {
             return Err(Fault::NotRising { line });
         }
@@ -134,9 +118,9 @@ impl<'a> Row<'a> for RecordRow {
         Ok(Line { element, price })
     }
 
-    fn write(writer: &mut Writer, item: &Line) {
-        put_number(writer, item.element, b' ');
-        put_number(writer, item.price, b'\n');
+    fn write(&self, writer: &mut Writer) {
+        put_number(writer, self.element, b' ');
+        put_number(writer, self.price, b'\n');
     }
 }
 
@@ -153,24 +137,22 @@ fn entry_of(raw: RawEntry, line: u32) -> Result<Entry, Fault>
 }
 
 // What follows the entry on an element's line, and how it is read, where the first section has `lines` lines.
-pub trait Tail<'a> {
-    type Value: Drop;
-
+pub trait Tail<'a>: Sized + Drop {
     ghost model: { Type 0 };
 
-    ghost value: { Self.Value → model };
+    ghost value: { Self → model };
 
     ghost form: { ATail model };
 
     ghost text: { model → List ℕ };
 
     // What the fields name, or none where they name nothing.
-    fn read(reader: &mut Reader<'a>, lines: Place) -> Result<Option<Self::Value>, Fault>
+    fn read(reader: &mut Reader<'a>, lines: Place) -> Result<Option<Self>, Fault>
         ensures read { Reads (valued value) (seen form lines) reader.old result reader.new }
         ensures room { OnOk result (room reader.new < room reader.old) };
 
-    fn write(writer: &mut Writer, tail: &Self::Value)
-        ensures { Wrote writer.old (text (value tail.now)) writer.new };
+    fn write(&self, writer: &mut Writer)
+        ensures { Wrote writer.old (text (value self.now)) writer.new };
 }
 
 // The route between the two places, where both are there.
@@ -183,12 +165,7 @@ fn route(from: u32, to: u32, places: Place) -> Option<Route>
 }
 
 // Routes: two places.
-#[derive(Clone, Copy)]
-pub struct RouteTail;
-
-impl<'a> Tail<'a> for RouteTail {
-    type Value = Route;
-
+impl<'a> Tail<'a> for Route {
     ghost model = { ℕ × ℕ };
 
     ghost value = { route_of };
@@ -198,24 +175,19 @@ impl<'a> Tail<'a> for RouteTail {
     ghost text = { route_text };
 
     fn read(reader: &mut Reader<'a>, lines: Place) -> Result<Option<Route>, Fault> {
-        let from = reader.field(&Numeral, b' ')?;
-        let to = reader.field(&Numeral, b'\n')?;
+        let from = reader.field(number_in, b' ')?;
+        let to = reader.field(number_in, b'\n')?;
         Ok(route(from, to, lines))
     }
 
-    fn write(writer: &mut Writer, tail: &Route) {
-        put_number(writer, tail.from, b' ');
-        put_number(writer, tail.to, b'\n');
+    fn write(&self, writer: &mut Writer) {
+        put_number(writer, self.from, b' ');
+        put_number(writer, self.to, b'\n');
     }
 }
 
-// Lots: one lot.
-#[derive(Clone, Copy)]
-pub struct LotTail;
-
-impl<'a> Tail<'a> for LotTail {
-    type Value = Place;
-
+// Lots: the number of one.
+impl<'a> Tail<'a> for Place {
     ghost model = { ℕ };
 
     ghost value = { itself };
@@ -225,22 +197,17 @@ impl<'a> Tail<'a> for LotTail {
     ghost text = { lot_number_text };
 
     fn read(reader: &mut Reader<'a>, lines: Place) -> Result<Option<Place>, Fault> {
-        let lot = reader.field(&Numeral, b'\n')?;
+        let lot = reader.field(number_in, b'\n')?;
         Ok(below(lot, lines))
     }
 
-    fn write(writer: &mut Writer, tail: &Place) {
-        put_number(writer, *tail, b'\n');
+    fn write(&self, writer: &mut Writer) {
+        put_number(writer, *self, b'\n');
     }
 }
 
 // Words: one letter 0 or 1 for each lamp.
-#[derive(Clone, Copy)]
-pub struct WordTail;
-
-impl<'a> Tail<'a> for WordTail {
-    type Value = &'a [u8];
-
+impl<'a> Tail<'a> for &'a [u8] {
     ghost model = { List Bool };
 
     ghost value = { word_of };
@@ -250,40 +217,32 @@ impl<'a> Tail<'a> for WordTail {
     ghost text = { word_text };
 
     fn read(reader: &mut Reader<'a>, lines: Place) -> Result<Option<&'a [u8]>, Fault> {
-        let word = reader.field(&Bits { lamps: lines }, b'\n')?;
+        let word = reader.field(|field| word_in(field, lines), b'\n')?;
         Ok(Some(word))
     }
 
-    fn write(writer: &mut Writer, tail: &&'a [u8]) {
-        put_word(writer, tail);
+    fn write(&self, writer: &mut Writer) {
+        put_word(writer, self);
     }
 }
 
-// Elements: an entry and a tail each, where the first section has so many lines.
-#[derive(Drop)]
-pub struct ElementRow<T> {
-    pub lines: Place,
-    pub tail: PhantomData<T>,
-}
-
-impl<'a, T: Tail<'a>> Row<'a> for ElementRow<T> {
-    type Item = ElementLine<T::Value>;
-
+// Elements: an entry and a tail each.
+impl<'a, T: Tail<'a>> Row<'a> for ElementLine<T> {
     ghost model = { AnElement T.Tail.model };
 
     ghost value = { element_of T.Tail.value };
 
-    ghost step = { λ f _. element_line T.Tail.form f.lines };
+    ghost step = { λ lines _. element_line T.Tail.form lines };
 
     ghost text = { element_text T.Tail.text };
 
     fn read(
-        &self,
         reader: &mut Reader<'a>,
-        _before: Option<&ElementLine<T::Value>>,
-    ) -> Result<ElementLine<T::Value>, Fault> {
+        above: u8,
+        _before: Option<&ElementLine<T>>,
+    ) -> Result<ElementLine<T>, Fault> {
         let raw = reader.entry()?;
-        let named = T::read(reader, self.lines)?;
+        let named = T::read(reader, above)?;
         let line = reader.line;
         let entry = entry_of(raw, line)?;
         let tail = named.ok_or(Fault::NamesNothing { line })?;
@@ -291,8 +250,8 @@ impl<'a, T: Tail<'a>> Row<'a> for ElementRow<T> {
         Ok(ElementLine { entry, tail })
     }
 
-    fn write(writer: &mut Writer, item: &ElementLine<T::Value>) {
-        put_entry(writer, &item.entry);
-        T::write(writer, &item.tail);
+    fn write(&self, writer: &mut Writer) {
+        put_entry(writer, &self.entry);
+        self.tail.write(writer);
     }
 }

@@ -3,7 +3,7 @@ ghost use Rattle.std.specs.Prelude.{◌≡◌, ◌+◌, ◌^◌, ◌<◌, ◌≤
 ghost use Rattle.form.specs.Reading.{field, heading, count, entry as an_entry, name_line, lot_line, recorded_line};
 ghost use Rattle.sheet.specs.Code.{bytes, itself, lot_of};
 
-use crate::fields::{EntryLetter, Field, KindWord, Numeral, Title};
+use crate::fields::{kind_in, letter_in, name_in, number_in};
 use crate::values::Lot;
 use element::{Place, Price};
 use fault::Fault;
@@ -50,7 +50,7 @@ impl Limits {
 }
 
 impl<'a> Reader<'a> {
-    ghost use Rattle.sheet.specs.Readers.{Cut, Reads, room, raw_of};
+    ghost use Rattle.sheet.specs.Readers.{Cut, Fielded, Reads, room, raw_of};
 
     // The bytes before the first byte `end`; the reader goes on after it.
     fn cut(&mut self, end: u8) -> Option<&'a [u8]>
@@ -62,22 +62,26 @@ impl<'a> Reader<'a> {
         Some(&rest[..at])
     }
 
-    // What the field that `end` ends holds.
-    pub fn field<F: Field<'a>>(&mut self, form: &F, end: u8) -> Result<F::Value, Fault>
-        ensures read { Reads F.Field.value (field end (F.Field.reads form.now)) self.old result self.new }
+    // What the field that `end` ends holds, as `of` reads it.
+    pub fn field<V: Drop, F: FnOnce(&'a [u8]) -> Option<V>>(
+        &mut self,
+        of: F,
+        end: u8,
+    ) -> Result<V, Fault>
+        requires { F.IsAlwaysCallable of }
+        ensures read { Fielded (F.post of) end self.old result self.new }
         ensures room { OnOk result (room self.new < room self.old) }
     {
         let malformed = Fault::Malformed { line: self.line };
-        let field = self.cut(end).ok_or(malformed)?;
-        form.of(field).ok_or(malformed)
+        self.cut(end).and_then(of).ok_or(malformed)
     }
 
     // The first line: the kind and the allowance.
     pub fn heading(&mut self) -> Result<(Kind, u32), Fault>
         ensures read { Reads itself heading self.old result self.new }
     {
-        let kind = self.field(&KindWord, b' ')?;
-        let allowance = self.field(&Numeral, b'\n')?;
+        let kind = self.field(kind_in, b' ')?;
+        let allowance = self.field(number_in, b'\n')?;
         self.line += 1;
         Ok((kind, allowance))
     }
@@ -87,7 +91,7 @@ impl<'a> Reader<'a> {
         ensures read { Reads itself (count limits.least limits.most) self.old result self.new }
         ensures most { IfOk result (λ n. n ≤ limits.most) }
     {
-        let n = self.field(&Numeral, b'\n')?;
+        let n = self.field(number_in, b'\n')?;
         let count = limits
             .admit(n)
             .ok_or(Fault::CountBeyondLimit { line: self.line })?;
@@ -99,7 +103,7 @@ impl<'a> Reader<'a> {
     pub fn name_line(&mut self) -> Result<&'a [u8], Fault>
         ensures read { Reads bytes name_line self.old result self.new }
     {
-        let name = self.field(&Title, b'\n')?;
+        let name = self.field(name_in, b'\n')?;
         self.line += 1;
         Ok(name)
     }
@@ -108,8 +112,8 @@ impl<'a> Reader<'a> {
     pub fn lot_line(&mut self) -> Result<Lot<'a>, Fault>
         ensures read { Reads lot_of lot_line self.old result self.new }
     {
-        let name = self.field(&Title, b' ')?;
-        let cap = self.field(&Numeral, b'\n')?;
+        let name = self.field(name_in, b' ')?;
+        let cap = self.field(number_in, b'\n')?;
         self.line += 1;
         Ok(Lot { name, cap })
     }
@@ -118,14 +122,14 @@ impl<'a> Reader<'a> {
     pub fn entry(&mut self) -> Result<RawEntry, Fault>
         ensures read { Reads raw_of an_entry self.old result self.new }
     {
-        match self.field(&EntryLetter, b' ')? {
+        match self.field(letter_in, b' ')? {
             Letter::K => {
-                let price = self.field(&Numeral, b' ')?;
+                let price = self.field(number_in, b' ')?;
                 Ok(RawEntry::Known(price))
             }
             Letter::R => {
-                let low = self.field(&Numeral, b' ')?;
-                let high = self.field(&Numeral, b' ')?;
+                let low = self.field(number_in, b' ')?;
+                let high = self.field(number_in, b' ')?;
                 Ok(RawEntry::Range(low, high))
             }
         }

@@ -7,17 +7,14 @@ ghost use Rattle.writer.specs.Written.{Wrote};
 ghost use Rattle.sheet.specs.Code.{body_of, record_of, sheet_of};
 ghost use Rattle.sheet.specs.Readers.{Empty, Reads};
 
-use crate::lines::{
-    ElementRow, LotRow, LotTail, NameRow, RecordRow, RouteTail, Row, Tail, WordTail,
-};
+use crate::lines::{Row, Tail};
 use crate::reader::{Limits, Reader};
 use crate::values::{Body, ByKind, Sheet};
 use crate::writing::{put_field, put_number};
-use element::{Element, Line, Place};
+use element::{Line, Place};
 use fault::Fault;
 use form::Kind;
 use std::alloc::{AllocError, Global};
-use std::marker::PhantomData;
 use writer::Writer;
 
 // How many places, lots, elements or recorded prices there may be.
@@ -30,39 +27,39 @@ const LINES: Limits = Limits {
 const LAMPS: Limits = Limits { least: 1, most: 64 };
 
 // The lines of a section, put into empty room for them.
-fn rows<'a, F: Row<'a>>(
+fn rows<'a, R: Row<'a>>(
     reader: &mut Reader<'a>,
-    form: &F,
+    above: u8,
     count: Place,
-    mut items: Vec<F::Item>,
-) -> Result<Vec<F::Item>, Fault>
+    mut items: Vec<R>,
+) -> Result<Vec<R>, Fault>
     requires empty { items.items ≡ [] }
     requires space { count ≤ vec_capacity items }
-    ensures read { Reads (λ v. map F.Row.value v.items) (repeated (F.Row.step form.now) None count) reader.old result reader.new }
+    ensures read { Reads (λ v. map R.Row.value v.items) (repeated (R.Row.step above) None count) reader.old result reader.new }
     ensures len { IfOk result (λ v. vec_len v ≡ count) }
 {
     // A line is read beside the one before it: no index is counted.
     for _ in 0..count {
-        let item = form.read(reader, items.last())?;
+        let item = R::read(reader, above, items.last())?;
         items.push_reserved(item);
     }
     Ok(items)
 }
 
 // A section: the line with its count, and its lines.
-fn section<'a, F: Row<'a>>(
+fn section<'a, R: Row<'a>>(
     reader: &mut Reader<'a>,
-    form: &F,
+    above: u8,
     limits: Limits,
-    items: Vec<F::Item>,
-) -> Result<Vec<F::Item>, Fault>
+    items: Vec<R>,
+) -> Result<Vec<R>, Fault>
     requires empty { items.items ≡ [] }
     requires space { limits.most ≤ vec_capacity items }
-    ensures read { Reads (λ v. map F.Row.value v.items) (counted limits.least limits.most (F.Row.step form.now)) reader.old result reader.new }
+    ensures read { Reads (λ v. map R.Row.value v.items) (counted limits.least limits.most (R.Row.step above)) reader.old result reader.new }
     ensures len { IfOk result (λ v. vec_len v ≤ limits.most) }
 {
     let count = reader.count(limits)?;
-    rows(reader, form, count, items)
+    rows(reader, above, count, items)
 }
 
 impl<P: Drop, T: Drop> Body<P, T> {
@@ -83,34 +80,38 @@ impl<P: Drop, T: Drop> Body<P, T> {
     }
 }
 
-// The three sections. The memory for all their lines is had before the first is read.
+// The three sections, read into an empty body. No memory is wanted once a line is read.
 fn sections<'a, P: Row<'a>, T: Tail<'a>>(
-    heap: Global,
     reader: &mut Reader<'a>,
-    form: &P,
     limits: Limits,
-    allowance: u32,
-) -> Result<Body<P::Item, T::Value>, Fault>
-    ensures { starved result ≡ false → Reads (body_of P.Row.value T.Tail.value) (a_body limits.least limits.most (P.Row.step form.now) T.Tail.form allowance) reader.old result reader.new }
+    empty: Body<P, T>,
+) -> Result<Body<P, T>, Fault>
+    requires { Empty most_lines empty }
+    ensures { Reads (body_of P.Row.value T.Tail.value) (a_body limits.least limits.most (P.Row.step 0) T.Tail.form empty.allowance) reader.old result reader.new }
 {
-    let empty = Body::empty(heap, allowance)?;
-    // Neither cast below loses a bit: no section has more than 255 lines.
-    let places = section(reader, form, limits, empty.places)?;
-    let row: ElementRow<T> = ElementRow {
-        lines: places.len() as Place,
-        tail: PhantomData,
-    };
-    let elements = section(reader, &row, LINES, empty.elements)?;
-    let row = RecordRow {
-        elements: elements.len() as Element,
-    };
-    let recorded = section(reader, &row, LINES, empty.recorded)?;
+    // No section stands above the first. Neither cast loses a bit: no section has more than 255 lines.
+    let places = section(reader, 0, limits, empty.places)?;
+    let elements = section(reader, places.len() as u8, LINES, empty.elements)?;
+    let recorded = section(reader, elements.len() as u8, LINES, empty.recorded)?;
     Ok(Body {
-        allowance,
+        allowance: empty.allowance,
         places,
         elements,
         recorded,
     })
+}
+
+// A body: the memory for all its lines, then its three sections.
+fn body<'a, P: Row<'a>, T: Tail<'a>>(
+    heap: Global,
+    reader: &mut Reader<'a>,
+    limits: Limits,
+    allowance: u32,
+) -> Result<Body<P, T>, Fault>
+    ensures { starved result ≡ false → Reads (body_of P.Row.value T.Tail.value) (a_body limits.least limits.most (P.Row.step 0) T.Tail.form allowance) reader.old result reader.new }
+{
+    let empty = Body::empty(heap, allowance)?;
+    sections(reader, limits, empty)
 }
 
 // The sections of a sheet of the kind, with the memory for them.
@@ -123,26 +124,20 @@ pub fn by_kind<'a>(
     ensures { starved result ≡ false → Reads sheet_of (sections_of kind allowance) reader.old result reader.new }
 {
     match kind {
-        Kind::Routes => Ok(ByKind::Routes(sections::<NameRow, RouteTail>(
-            heap, reader, &NameRow, LINES, allowance,
-        )?)),
-        Kind::Lots => Ok(ByKind::Lots(sections::<LotRow, LotTail>(
-            heap, reader, &LotRow, LINES, allowance,
-        )?)),
-        Kind::Words => Ok(ByKind::Words(sections::<NameRow, WordTail>(
-            heap, reader, &NameRow, LAMPS, allowance,
-        )?)),
+        Kind::Routes => Ok(ByKind::Routes(body(heap, reader, LINES, allowance)?)),
+        Kind::Lots => Ok(ByKind::Lots(body(heap, reader, LINES, allowance)?)),
+        Kind::Words => Ok(ByKind::Words(body(heap, reader, LAMPS, allowance)?)),
     }
 }
 
 // A section: its count, and its lines.
-fn write_section<'a, F: Row<'a>>(writer: &mut Writer, items: &[F::Item])
-    ensures { Wrote writer.old (a_section F.Row.text (map F.Row.value items.now)) writer.new }
+fn write_section<'a, R: Row<'a>>(writer: &mut Writer, items: &[R])
+    ensures { Wrote writer.old (a_section R.Row.text (map R.Row.value items.now)) writer.new }
 {
     // No `From` leads from usize to u64; the cast loses nothing.
     put_number(writer, items.len() as u64, b'\n');
     for item in items {
-        F::write(writer, item);
+        item.write(writer);
     }
 }
 
@@ -150,21 +145,17 @@ fn write_section<'a, F: Row<'a>>(writer: &mut Writer, items: &[F::Item])
 pub fn write_lines(writer: &mut Writer, lines: &[Line])
     ensures { Wrote writer.old (a_section recorded_text (map record_of lines.now)) writer.new }
 {
-    write_section::<RecordRow>(writer, lines);
+    write_section(writer, lines);
 }
 
 // The kind's word, the allowance and the three sections.
-fn write_body<'a, P: Row<'a>, T: Tail<'a>>(
-    writer: &mut Writer,
-    word: &[u8],
-    body: &Body<P::Item, T::Value>,
-)
+fn write_body<'a, P: Row<'a>, T: Tail<'a>>(writer: &mut Writer, word: &[u8], body: &Body<P, T>)
     ensures { Wrote writer.old (spaced word.now ++ body_text P.Row.text T.Tail.text (body_of P.Row.value T.Tail.value body.now)) writer.new }
 {
     put_field(writer, word, b' ');
     put_number(writer, body.allowance, b'\n');
-    write_section::<P>(writer, &body.places);
-    write_section::<ElementRow<T>>(writer, &body.elements);
+    write_section(writer, &body.places);
+    write_section(writer, &body.elements);
     write_lines(writer, &body.recorded);
 }
 
@@ -173,8 +164,8 @@ pub fn write_sheet(writer: &mut Writer, sheet: &Sheet)
     ensures { Wrote writer.old (written (sheet_of sheet.now)) writer.new }
 {
     match sheet {
-        ByKind::Routes(body) => write_body::<NameRow, RouteTail>(writer, b"routes", body),
-        ByKind::Lots(body) => write_body::<LotRow, LotTail>(writer, b"lots", body),
-        ByKind::Words(body) => write_body::<NameRow, WordTail>(writer, b"words", body),
+        ByKind::Routes(body) => write_body(writer, b"routes", body),
+        ByKind::Lots(body) => write_body(writer, b"lots", body),
+        ByKind::Words(body) => write_body(writer, b"words", body),
     }
 }

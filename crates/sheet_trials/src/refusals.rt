@@ -2,7 +2,7 @@ use fault::Fault;
 use sheet::read;
 use std::alloc::Global;
 
-// A text, and the number and the line that it is refused with.
+// A text, and the number and the line that it is refused with: the numbers themselves are what is tested.
 type Case = (&'static str, u8, u32);
 
 // The first line.

@@ -7,7 +7,7 @@ use std::iter::repeat_n;
 use std::test::Fail;
 use writer::Writer;
 
-// So many lamps and elements, and so many records.
+// So many lamps and elements, and so many records. The numbers of the loops are written themselves: no index is counted.
 fn lamps(heap: Global, lamps: u64, elements: u64, records: u64) -> Result<Vec<u8>, Fault> {
     let mut writer = Writer::with_room(heap, 65_536)?;
     writer.put(b"words 9\n");

@@ -24,7 +24,7 @@ fn has_routes(body: &Body<&[u8], Route>) -> bool {
     body.allowance == 9
         && *place == b"c".as_slice()
         && (line.entry.low(), line.entry.high(), line.entry.is_known()) == (4, 9, false)
-        && (line.tail.from, line.tail.to) == (0, 2)
+        && line.tail == Route { from: 0, to: 2 }
         && (record.element, record.price) == (2, 5)
 }
 

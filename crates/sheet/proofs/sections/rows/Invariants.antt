@@ -6,4 +6,4 @@ use Rattle.sheet.proofs.sections.rows.Given as goal
 
 abbrev pub invariant-loop : goal.invariant-loop
 invariant-loop g l =
-    Sofar (g.F.Row.step l.form) (repeated (g.F.Row.step l.form) None l.count (left l.initial.reader) l.initial.reader.line) (map g.F.Row.value (vec_items l.items)) (l.count - l.counter) (left l.reader) l.reader.line × (vec_len l.items ≡ l.counter) × (l.count ≤ vec_capacity l.items)
+    Sofar (g.R.Row.step l.above) (repeated (g.R.Row.step l.above) None l.count (left l.initial.reader) l.initial.reader.line) (map g.R.Row.value (vec_items l.items)) (l.count - l.counter) (left l.reader) l.reader.line × (vec_len l.items ≡ l.counter) × (l.count ≤ vec_capacity l.items)

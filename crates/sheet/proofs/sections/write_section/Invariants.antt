@@ -4,4 +4,4 @@ use Rattle.writer.specs.Written.{Wrote}
 use Rattle.sheet.proofs.sections.write_section.Given as goal
 
 abbrev pub invariant-loop-item : goal.invariant-loop-item
-invariant-loop-item g l = Wrote l.initial.writer (flat_map g.F.Row.text (map g.F.Row.value (take l.item-index l.items))) l.writer
+invariant-loop-item g l = Wrote l.initial.writer (flat_map g.R.Row.text (map g.R.Row.value (take l.item-index l.items))) l.writer
