@@ -9,15 +9,17 @@ mod tests {
     use lots::Lots;
     use matroid::{Closing, Matroid};
     use routes::Routes;
+    use std::array;
     use std::test::Fail;
     use words::Words;
 
     // How many elements an example has, and how many sets of them there are. A set is a number, with a one at the bit of each member.
+    // It has 32 bits and an index is a usize, so casts lead between them: none loses anything here.
     const N: usize = 6;
 
     const SETS: usize = 64;
 
-    // An answer to a question about a circuit: a refusal by its number and its place.
+    // An answer to a question about a circuit: a refusal by its number and its place, since the numbers are what is tested.
     type Answer = Result<Closing, (u8, u32)>;
 
     // An example that says by a trial which sets are independent.
@@ -97,11 +99,7 @@ mod tests {
 
     // Which sets are independent.
     fn independent_sets<T: Trial>(trial: &T) -> [bool; SETS] {
-        let mut sets = [false; SETS];
-        for (set, entry) in sets.iter_mut().enumerate() {
-            *entry = trial.independent((set % SETS) as u32);
-        }
-        sets
+        array::from_fn(|set| trial.independent((set % SETS) as u32))
     }
 
     // The first dependent part: all its smaller parts come before it, so it is a circuit.
@@ -131,11 +129,7 @@ mod tests {
     }
 
     fn marks_of(set: u32) -> [bool; MARKS] {
-        let mut marks = [false; MARKS];
-        for (i, mark) in marks.iter_mut().enumerate() {
-            *mark = has(set, i);
-        }
-        marks
+        array::from_fn(|i| has(set, i))
     }
 
     // Whether the marks show the set.

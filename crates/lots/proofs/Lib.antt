@@ -1,1 +1,2 @@
 pub mod LotCounts
+pub mod Walks

@@ -36,9 +36,10 @@ impl Lots {
         ensures places { (i : ℕ) → i < length self.now.lots.list.items → at self.now.lots.list.items i < all_places }
     {
         let mut counts = [0; PLACES];
-        for (i, lot) in self.lots.as_slice().iter().enumerate() {
-            if set[i] {
-                add_to(&mut counts, *lot);
+        for (lot, member) in self.lots.as_slice().iter().zip(set) {
+            let lot = *lot;
+            if *member {
+                add_to(&mut counts, lot);
             }
         }
         counts
@@ -61,6 +62,7 @@ impl Lots {
     {
         let lots = self.lots.as_slice();
         let mut marks = [false; MARKS];
+        // By index: `array::from_fn` would ask at all places, and after `iter_mut().zip(..)` no clause says what was written.
         for (k, lot) in lots.iter().enumerate() {
             marks[k] = (k == e || set[k]) && *lot == lots[e];
         }

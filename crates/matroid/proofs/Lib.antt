@@ -10,3 +10,4 @@ pub mod Free
 pub mod Marks
 pub mod Replies
 pub mod Asked
+pub mod Walks

@@ -1,7 +1,11 @@
 -- Marks that are set, and marks that a loop shows one by one.
-use Rattle.std.proofs.Common.{◌≡◌, ℕ, zero, suc, ◌+◌, ◌<◌, ◌≤◌, Bool, true, false, cond, ◌&&◌, ◌||◌, ltb, leb, List, [], ◌∷◌, Option, Some, None, length, get_or, set, replicate, sym, refl, ap, ◌∙◌, inl, inr, arith, length-set, get_or-set_other, get_or-set_same}
+use Rattle.std.proofs.Common.{◌≡◌, ℕ, zero, suc, ◌+◌, ◌-◌, ◌<◌, ◌≤◌, Bool, true, false, cond, ◌&&◌, ◌||◌, ltb, leb, List, [], ◌∷◌, Option, Some, None, length, get_or, set, position, replicate, sym, refl, ap, ap₂, ◌∙◌, inl, inr, arith, length-set, get_or-set_other, get_or-set_same}
 use Rattle.std.proofs.lemmas.List.{same_lists, get_or-replicate, get_or_past, get_or_default, length-replicate}
-use Rattle.std.proofs.lemmas.Bool.{cases_eq, cases_lt, lt-ltb, le-ltb, le-leb, eq-eqb, and_from, cond-true, cond-false}
+use Rattle.std.proofs.lemmas.Bool.{cases_eq, cases_lt, lt-leb, lt-ltb, le-ltb, le-leb, eq-eqb, and_from, cond-true, cond-false}
+use Rattle.std.proofs.lemmas.List.Quantifiers.{position-Some}
+use Rattle.std.proofs.lemmas.List.Sums.{fails_before_first}
+use Rattle.std.specs.List.{slice_range, position_or_len}
+use Rattle.std.proofs.lemmas.Grind.{common_steps}
 use Rattle.element.specs.Marks.{all_marks}
 use Rattle.matroid.specs.Sets.{Elements, with, without}
 use Rattle.matroid.specs.Questions.{marked, shown_from, shown, lowest_mark, next_mark}
@@ -102,3 +106,26 @@ module _ (n : ℕ) (marks : List Bool) (i : ℕ) (before : (k : ℕ) → k < i �
   next_none l =
       let e = lowest_none (length marks) (λ k. leb n k && marked marks k) (λ k m. before k (omega arith)) in
       sym (cond-false {A = Option ℕ} (ltb (lowest_mark n marks) (length marks)) (Some (lowest_mark n marks)) None (le-ltb (lowest_mark n marks) (length marks) (omega arith)))
+
+-- what the search among the marks from n on tells
+module _ (n : ℕ) (marks part : List Bool) (is : part ≡ slice_range marks n (length marks)) (long : length part + n ≡ length marks) where
+  part_mark : (k : ℕ) → k < length part → marked part k ≡ marked marks (n + k)
+  part_mark k l = grind (arith, common_steps)
+
+  before_part : (i : ℕ) → ((k : ℕ) → k < i → marked part k ≡ false) → i ≤ length part → (k : ℕ) → k < n + i → (leb n k && marked marks k) ≡ false
+  before_part i none l k m = elim (cases_lt k n) [
+    | inl b ↦ ap (λ (t : Bool). t && marked marks k) (lt-leb n k b)
+    | inr b ↦
+        let q : n + (k - n) ≡ k = omega arith in
+        ap₂ (λ (t u : Bool). t && u) (le-leb n k b) (ap (marked marks) (sym q) ∙ sym (part_mark (k - n) (omega arith)) ∙ none (k - n) (omega arith))
+  ]
+
+  pub found_next : (i : ℕ) → Some i ≡ position (λ (m : Bool). m) part → Some (n + i) ≡ next_mark n marks
+  found_next i e =
+      let (l, here, before) = position-Some (λ (m : Bool). m) part i false (sym e) in
+      next_here n marks (n + i) (before_part i before (omega arith)) (omega arith) (omega arith) (sym (part_mark i l) ∙ here)
+
+  pub none_next : None ≡ position (λ (m : Bool). m) part → None ≡ next_mark n marks
+  none_next e =
+      let past : length part ≤ position_or_len (λ (m : Bool). m) part = grind (arith, common_steps) in
+      next_none n marks (n + length part) (before_part (length part) (λ k l. fails_before_first (λ (m : Bool). m) part k false (omega arith)) (omega arith)) (omega arith)

@@ -1,5 +1,5 @@
 // What the answers of all matroids have in common: the refusals, and the marks of the result.
-ghost use Rattle.std.specs.Prelude.{◌≡◌};
+ghost use Rattle.std.specs.Prelude.{◌≡◌, position};
 ghost use Rattle.fault.specs.Refusals.{told};
 ghost use Rattle.matroid.specs.Sets.{cut};
 ghost use Rattle.matroid.specs.Questions.{marked, shown, next_mark, admitted};
@@ -9,17 +9,20 @@ use crate::Closing;
 use element::{Element, MARKS};
 use fault::Fault;
 
+// The place of the first mark.
+fn first_mark(marks: &[bool]) -> Option<usize>
+    ensures { result ≡ position (λ m. m) marks.now }
+{
+    marks.iter().position(|marked| *marked)
+}
+
 // The lowest mark at or above `from`.
 pub fn lowest_mark(marks: &[bool; MARKS], from: usize) -> Option<Element>
     ensures { result ≡ next_mark from marks.now }
 {
-    for (i, marked) in marks.get(from..)?.iter().enumerate() {
-        if *marked {
-            // The cast loses nothing: each place of the marks is an element.
-            return Some((from + i) as Element);
-        }
-    }
-    None
+    let first = first_mark(marks.get(from..)?)?;
+    // The cast loses nothing: each place of the marks is an element.
+    Some((from + first) as Element)
 }
 
 // The marks of the set, for a question to a matroid of n elements that is not refused, whatever is independent.
@@ -51,6 +54,7 @@ pub fn admit(
 pub fn show(members: &[bool; MARKS], n: Element, marks: &mut [bool])
     ensures { marks.new ≡ shown (cut n (marked members.now)) marks.old }
 {
+    // By index among the members: after `iter_mut().zip(..)` no clause says what was written.
     for (k, mark) in marks.iter_mut().enumerate() {
         if let Some(member) = members.get(k) {
             *mark = k < usize::from(n) && *member;
@@ -68,6 +72,7 @@ pub fn conclude(
     ensures answer { told (λ x. x) result ≡ (concluded n outcome marks.old).answer }
     ensures marks { marks.new ≡ (concluded n outcome marks.old).marks }
 {
+    // A match: each case does work of its own.
     match outcome? {
         None => Ok(Closing::Independent),
         Some(circuit) => {

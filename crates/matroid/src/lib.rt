@@ -16,7 +16,8 @@ use fault::Fault;
 pub use listed::Listed;
 pub use theory::theory_holds;
 
-// What a set that is independent makes with one more element.
+// What a set that is independent makes with one more element. A rule of the project: a question takes a set and marks, and answers
+// into the marks, so the circuit itself stands there.
 #[derive(Clone, Copy, PartialEq, Eq, Debug)]
 pub enum Closing {
     // They are independent together.

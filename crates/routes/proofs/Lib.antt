@@ -2,6 +2,7 @@ pub mod Totals
 pub mod Cycles
 pub mod Leaves
 pub mod Incidences
+pub mod Numbered
 pub mod LeafSteps
 pub mod Stripping
 pub mod Cores

@@ -71,12 +71,12 @@ impl<'a> Stripping<'a> {
             degree: 0,
             numbers: 0,
         }; PLACES];
-        // The casts lose nothing: there are fewer routes than elements can be.
-        for (i, route) in routes.iter().enumerate() {
+        // By `requires`, there are no more routes than numbers.
+        for ((k, route), marked) in (0..Element::MAX).zip(routes).zip(marks) {
             let Route { from, to } = *route;
-            if marks[i] {
-                attach(&mut places, from, i as Element);
-                attach(&mut places, to, i as Element);
+            if *marked {
+                attach(&mut places, from, k);
+                attach(&mut places, to, k);
             }
         }
         Stripping {
@@ -130,6 +130,7 @@ impl Routes {
         ensures ends { EndsArePlaces (length self.now.routes.list.items) self.now.routes.list.items }
     {
         let mut stripping = Stripping::new(self.routes.as_slice(), marks);
+        // The places themselves, in turn.
         for place in 0..=Place::MAX {
             stripping.strip_from(place);
         }
@@ -160,10 +161,6 @@ impl Routes {
         let mut all = *set;
         all[usize::from(element)] = true;
         let left = self.core_of(&all);
-        if self.any_marked(&left) {
-            Ok(Some(left))
-        } else {
-            Ok(None)
-        }
+        Ok(self.any_marked(&left).then_some(left))
     }
 }

@@ -46,13 +46,10 @@ fn cleared(word: u64, c: u8) -> u64
 fn free_bit(word: u64, used: &[bool; 64]) -> Option<u8>
     ensures { FreeBit word (marked used.now) result }
 {
-    // The casts lose nothing, and `try_from` would need an error that cannot come.
-    for (c, taken) in used.iter().enumerate() {
-        if !*taken && bit_of(word, c as u8) {
-            return Some(c as u8);
-        }
-    }
-    None
+    (0..64)
+        .zip(used)
+        .find(|(c, taken)| !**taken && bit_of(word, *c))
+        .map(|(c, _)| c)
 }
 
 // Adds the other ones of the pivot's word to each word that has a one at bit c.
@@ -77,6 +74,7 @@ impl Words {
             word: 0,
             pivot: None,
         }; MARKS];
+        // By index: `array::from_fn` takes half as many instructions again a question, and after `iter_mut().zip(..)` no clause says what was written.
         for (i, word) in self.words.as_slice().iter().enumerate() {
             rows[i].word = *word;
         }
@@ -116,6 +114,7 @@ impl Words {
         let word = table.rows[e].word;
         let mut marks = [false; MARKS];
         let n = usize::from(self.words.size());
+        // By index: `array::from_fn` would ask at all places, and after `iter_mut().zip(..)` no clause says what was written.
         for (k, row) in table.rows[..n].iter().enumerate() {
             if let Some(pivot) = row.pivot {
                 marks[k] = bit_of(word, pivot);
