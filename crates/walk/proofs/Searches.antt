@@ -1,5 +1,5 @@
 -- What searches of the numbers below n come to.
-use Rattle.std.proofs.Common.{◌≡◌, ℕ, zero, suc, ◌+◌, ◌<◌, ◌≤◌, Bool, true, false, cond, not, ◌&&◌, ◌||◌, ltb, List, ◌∷◌, length, get_or, Some, None, Option, sym, refl, ap, ◌∙◌, subst, inl, inr, arith}
+use Rattle.std.proofs.Common.{◌≡◌, ℕ, zero, suc, ◌+◌, ◌<◌, ◌≤◌, Bool, true, false, not, ◌&&◌, ◌||◌, List, ◌∷◌, length, get_or, Some, None, Option, sym, refl, ap, ◌∙◌, subst, inl, inr, arith}
 use Rattle.std.specs.Bool.{MatchBool}
 use Rattle.std.specs.Option.{MatchOption, IsSomeAnd, unwrap_or}
 use Rattle.std.specs.List.{HoldsAt, AllWithin, filter, range_with_len, slice_get}
@@ -10,12 +10,12 @@ use Rattle.std.specs.declared.cmp.Ordering.{Ordering}
 use Rattle.std.specs.Ordering.{is_lt}
 use Rattle.std.specs.declared.ops.Range.{Range}
 use Rattle.std.proofs.iter.Yields.{nat_range_steps}
-use Rattle.std.specs.Iterator.{DrainsIf, ChecksAll, ChecksAny, FindsItem}
+use Rattle.std.specs.Iterator.{DrainsIf, ChecksAll, ChecksAny}
 use Rattle.std.specs.Iterator.Runs.{WholeRun, AllItems, AnyItem, NoKeyBeyond}
 use Rattle.std.proofs.iter.runs.Made.{took, at-is, each_of}
 use Rattle.std.proofs.iter.runs.Lists.{Everywhere}
 use mathlib.Core.List.{map-id}
-use Rattle.std.proofs.lemmas.Iterator.{YieldsList, YieldsList-from_range, items_from_drains, cases_from_all, cases_from_any, first_from_Range}
+use Rattle.std.proofs.lemmas.Iterator.{YieldsList, YieldsList-from_range, items_from_drains, cases_from_all, cases_from_any}
 use Rattle.std.proofs.lemmas.List.FromFn.{length-range_with_len, get_or-range_with_len}
 use Rattle.std.proofs.lemmas.Bool.Decides.{nat_tests}
 use Rattle.std.proofs.lemmas.Grind.{common_steps}
@@ -44,33 +44,22 @@ module _ (n : ℕ) (p : ℕ → Bool) where
       let m : k < n = omega arith in
       (k, m, subst (Holds b) (number k m) (h 0))
 
-  module _ {F : Type 0} (u : Range ℕ) (f : F) where
-    module _ {g : Mut F (ℕ × Unit {0}) Bool} (r : Bool) (computes : (x : ℕ) (b : Bool) (q : F) → Called g f (x, tt) b q → (q ≡ f) × (b ≡ p x)) where
-      pub all_is : ChecksAll nat_range_steps g below f r u → r ≡ every n p
-      all_is ran = by r (cases_from_all u f r (Holds true) (Holds false) ran (YieldsList-from_range 0 n n refl (omega arith))
-          (λ x q k. let c = computes x true q k in (c.0, sym c.1)) (λ x q k. sym (computes x false q k).1))
-        where
-          by : (r : Bool) → MatchBool r (AllWithin (Holds true) (range_with_len 0 n) 0 (length (range_with_len 0 n))) ((k : ℕ) × (k < length (range_with_len 0 n)) × HoldsAt (Holds false) (range_with_len 0 n) k) → r ≡ every n p
-          by true h = sym (every_from n p (each_below true h))
-          by false h = let s = some_below false h in sym (every_not n p s.0 s.1 s.2)
+  module _ {F : Type 0} (u : Range ℕ) (f : F) {g : Mut F (ℕ × Unit {0}) Bool} (r : Bool) (computes : (x : ℕ) (b : Bool) (q : F) → Called g f (x, tt) b q → (q ≡ f) × (b ≡ p x)) where
+    pub all_is : ChecksAll nat_range_steps g below f r u → r ≡ every n p
+    all_is ran = by r (cases_from_all u f r (Holds true) (Holds false) ran (YieldsList-from_range 0 n n refl (omega arith))
+        (λ x q k. let c = computes x true q k in (c.0, sym c.1)) (λ x q k. sym (computes x false q k).1))
+      where
+        by : (r : Bool) → MatchBool r (AllWithin (Holds true) (range_with_len 0 n) 0 (length (range_with_len 0 n))) ((k : ℕ) × (k < length (range_with_len 0 n)) × HoldsAt (Holds false) (range_with_len 0 n) k) → r ≡ every n p
+        by true h = sym (every_from n p (each_below true h))
+        by false h = let s = some_below false h in sym (every_not n p s.0 s.1 s.2)
 
-      pub any_is : ChecksAny nat_range_steps g below f r u → not r ≡ every n (λ i. not (p i))
-      any_is ran = by r (cases_from_any u f r (Holds true) (Holds false) ran (YieldsList-from_range 0 n n refl (omega arith))
-          (λ x q k. sym (computes x true q k).1) (λ x q k. let c = computes x false q k in (c.0, sym c.1)))
-        where
-          by : (r : Bool) → MatchBool r ((k : ℕ) × (k < length (range_with_len 0 n)) × HoldsAt (Holds true) (range_with_len 0 n) k) (AllWithin (Holds false) (range_with_len 0 n) 0 (length (range_with_len 0 n))) → not r ≡ every n (λ i. not (p i))
-          by true h = let s = some_below true h in sym (every_not n (λ i. not (p i)) s.0 s.1 (not_from_true (p s.0) s.2))
-          by false h = sym (every_from n (λ i. not (p i)) (λ i l. not_from_false (p i) (each_below false h i l)))
-
-    pub find_is : {g : Mut F (Bor ℕ × Unit {0}) Bool} (r : Option ℕ) → ((x : ℕ) (b : Bool) (q : F) → CalledAt g f x b q → (q ≡ f) × (b ≡ p x))
-        → FindsItem nat_range_steps g below f r u → r ≡ found n (lowest n p)
-    find_is r computes ran = by r (first_from_Range below u f r (Holds true) (Holds false) ran
+    pub any_is : ChecksAny nat_range_steps g below f r u → not r ≡ every n (λ i. not (p i))
+    any_is ran = by r (cases_from_any u f r (Holds true) (Holds false) ran (YieldsList-from_range 0 n n refl (omega arith))
         (λ x q k. sym (computes x true q k).1) (λ x q k. let c = computes x false q k in (c.0, sym c.1)))
       where
-        by : (r : Option ℕ) → MatchOption r ((k : ℕ) → 0 ≤ k → k < n → p k ≡ false) (λ i. (0 ≤ i) × (i < n) × (p i ≡ true) × ((k : ℕ) → 0 ≤ k → k < i → p k ≡ false))
-            → r ≡ found n (lowest n p)
-        by None h = let e = lowest_none n p (λ i l. h i (omega arith) l) in grind (arith, nat_tests)
-        by (Some i) h = let b = h.1 in let e = lowest_is n p i h.1 h.2 (λ k l. h.3 k (omega arith) l) in grind (arith, nat_tests)
+        by : (r : Bool) → MatchBool r ((k : ℕ) × (k < length (range_with_len 0 n)) × HoldsAt (Holds true) (range_with_len 0 n) k) (AllWithin (Holds false) (range_with_len 0 n) 0 (length (range_with_len 0 n))) → not r ≡ every n (λ i. not (p i))
+        by true h = let s = some_below true h in sym (every_not n (λ i. not (p i)) s.0 s.1 (not_from_true (p s.0) s.2))
+        by false h = sym (every_from n (λ i. not (p i)) (λ i l. not_from_false (p i) (each_below false h i l)))
 
 -- what was found tells of k
 pub found_at : (n k i : ℕ) → Some i ≡ found n k → (i < n) × (i ≡ k)
@@ -81,13 +70,6 @@ found_no n k h = grind (arith, nat_tests)
 
 pub found_or : (n k : ℕ) (o : Option ℕ) (r : ℕ) → k ≤ n → o ≡ found n k → r ≡ unwrap_or o n → r ≡ k
 found_or n k o r u is h = grind (arith, nat_tests)
-
--- k where it is found, or else l
-pub found_first : (n k l x : ℕ) (o : Option ℕ) → o ≡ found n k → o ≡ Some x → o ≡ found n (cond (ltb k n) k l)
-found_first n k l x o is some = grind (arith, nat_tests)
-
-pub found_second : (n k l : ℕ) (o r : Option ℕ) → o ≡ found n k → o ≡ None → r ≡ found n l → r ≡ found n (cond (ltb k n) k l)
-found_second n k l o r is none h = grind (arith, nat_tests)
 
 -- ## Of a filter
 

@@ -19,6 +19,7 @@ pub fn choose_pair(
     ensures known { result.2 ≡ known (sheet entries.now result.1) }
 {
     let ground = Ground { entries, n };
+    // In what is ensured, n stands for none.
     let f = ground.topmost(marks).unwrap_or(n);
     let g = ground.rival(marks, f).unwrap_or(n);
     (f, g, ground.is_known(g))

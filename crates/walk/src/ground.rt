@@ -24,19 +24,19 @@ impl<'a> Ground<'a> {
     fn low(&self, i: Element) -> Price
         ensures { result ≡ low (sheet self.now.entries.now i) }
     {
-        self.entries[i as usize].low()
+        self.entries[usize::from(i)].low()
     }
 
     fn high(&self, i: Element) -> Price
         ensures { result ≡ high (sheet self.now.entries.now i) }
     {
-        self.entries[i as usize].high()
+        self.entries[usize::from(i)].high()
     }
 
     pub(crate) fn is_known(&self, i: Element) -> bool
         ensures { result ≡ known (sheet self.now.entries.now i) }
     {
-        self.entries[i as usize].is_known()
+        self.entries[usize::from(i)].is_known()
     }
 
     // By what the walk takes one element before another.
@@ -60,7 +60,7 @@ impl<'a> Ground<'a> {
         ensures { result ≡ topped self.now.n (sheet self.now.entries.now) (marked marks.now) e }
     {
         let low = self.low(e);
-        (0..self.n).all(|x| !marks[x as usize] || x == e || self.high(x) <= low)
+        (0..self.n).all(|x| !marks[usize::from(x)] || x == e || self.high(x) <= low)
     }
 
     // The earliest untaken element.
@@ -68,7 +68,7 @@ impl<'a> Ground<'a> {
         ensures { result ≡ found self.now.n (earliest self.now.n (sheet self.now.entries.now) (marked taken.now)) }
     {
         (0..self.n)
-            .filter(|&i| !taken[i as usize])
+            .filter(|&i| !taken[usize::from(i)])
             .min_by_key(|&i| self.order(i))
     }
 
@@ -77,7 +77,7 @@ impl<'a> Ground<'a> {
         ensures { result ≡ found self.now.n (topmost self.now.n (sheet self.now.entries.now) (marked marks.now)) }
     {
         (0..self.n)
-            .filter(|&i| marks[i as usize])
+            .filter(|&i| marks[usize::from(i)])
             .min_by_key(|&i| (Reverse(self.high(i)), i))
     }
 
@@ -85,26 +85,23 @@ impl<'a> Ground<'a> {
     fn is_challenger(&self, marks: &[bool; MARKS], f: Element, i: Element) -> bool
         ensures { result ≡ challenges (sheet self.now.entries.now) (marked marks.now) f i }
     {
-        marks[i as usize] && i != f && self.low(f) < self.high(i)
+        marks[usize::from(i)] && i != f && self.low(f) < self.high(i)
     }
 
     // The lowest-numbered challenger of f that is known, or where none is the lowest-numbered one.
     pub(crate) fn rival(&self, marks: &[bool; MARKS], f: Element) -> Option<Element>
         ensures { result ≡ found self.now.n (rival self.now.n (sheet self.now.entries.now) (marked marks.now) f) }
     {
-        let known = (0..self.n).find(|&i| self.is_challenger(marks, f, i) && self.is_known(i));
-        // A match, since the closure of an `or_else` would need a clause of its own.
-        match known {
-            Some(_) => known,
-            None => (0..self.n).find(|&i| self.is_challenger(marks, f, i)),
-        }
+        (0..self.n)
+            .filter(|&i| self.is_challenger(marks, f, i))
+            .min_by_key(|&i| (!self.is_known(i), i))
     }
 
     // Takes the marks off all elements but those whose low is below the given one.
     pub(crate) fn keep_lower(&self, marks: &mut [bool; MARKS], high: Price)
         ensures { marked marks.new ≡ lower (sheet self.now.entries.now) high (marked marks.old) }
     {
-        // The cast loses nothing: each place of the marks is an element.
+        // The cast loses nothing: each place of the marks is an element. After `iter_mut().zip(..)` no clause says what was written.
         for (i, mark) in marks.iter_mut().enumerate() {
             *mark = *mark && self.low(i as Element) < high;
         }
@@ -114,6 +111,6 @@ impl<'a> Ground<'a> {
     pub(crate) fn is_behind(&self, marks: &[bool; MARKS], x: Element) -> bool
         ensures { result ≡ behind self.now.n (sheet self.now.entries.now) x (marked marks.now) }
     {
-        !(0..self.n).any(|i| marks[i as usize] && i != x && self.goes_before(x, i))
+        !(0..self.n).any(|i| marks[usize::from(i)] && i != x && self.goes_before(x, i))
     }
 }

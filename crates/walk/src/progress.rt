@@ -17,6 +17,8 @@ use entry::Entry;
 use matroid::{Closing, Matroid};
 
 // How far a walk has come: the elements that are taken, and those of them that are kept.
+// Two arrays of marks side by side, since sets are arrays of marks, by a rule of the project.
+// Indices are cast here: the stages' proofs would have to carry the result of each call `usize::from`.
 #[derive(Drop)]
 pub struct Progress {
     pub(crate) taken: [bool; MARKS],
@@ -34,35 +36,10 @@ fn closed_if_asked<M: Matroid>(
     let mut marks = [false; MARKS];
     match matroid.circuit(kept, e, &mut marks) {
         Ok(Closing::Circuit) => Some(marks),
+        // Not one arm `Ok(Closing::Independent) | Err(_)`: the proof then has no fact of which it was.
         Ok(Closing::Independent) => None,
         Err(_) => None,
     }
-}
-
-// The walk from a stage on: an element that closes no circuit is kept, and one that tops its circuit is dropped.
-// At an open circuit the element that closes it is not taken.
-fn go_on<M: Matroid>(
-    matroid: &M,
-    entries: &[Entry; MARKS],
-    taken: &mut [bool; MARKS],
-    kept: &mut [bool; MARKS],
-) -> Walk
-    ensures stage { Reached (M.Matroid.meaning matroid.now) (sheet entries.now) (marked taken.old) (marked kept.old) → Reached (M.Matroid.meaning matroid.now) (sheet entries.now) (marked taken.new) (marked kept.new) }
-    ensures stops { Reached (M.Matroid.meaning matroid.now) (sheet entries.now) (marked taken.old) (marked kept.old) → Stops (M.Matroid.meaning matroid.now) (sheet entries.now) (marked taken.new) (marked kept.new) (ended result) }
-{
-    let ground = Ground {
-        entries,
-        n: matroid.size(),
-    };
-    while let Some(e) = ground.next(taken) {
-        match closed_if_asked(matroid, kept, e) {
-            None => kept[e as usize] = true,
-            Some(circuit) if ground.is_topped(&circuit, e) => {}
-            Some(circuit) => return Walk::Open(circuit),
-        }
-        taken[e as usize] = true;
-    }
-    Walk::Settled(*kept)
 }
 
 impl Progress {
@@ -79,12 +56,26 @@ impl Progress {
     }
 
     // Goes on with the walk that came to this progress, to its end.
+    // An element that closes no circuit is kept, and one that tops its circuit is dropped; one that closes an open circuit is not taken.
     pub fn finish<M: Matroid>(&mut self, matroid: &M, entries: &[Entry; MARKS]) -> Walk
         ensures walk { Along (M.Matroid.meaning matroid.now) (sheet entries.now) self.old → ended result ≡ walk (M.Matroid.meaning matroid.now) (sheet entries.now) }
         ensures along { Along (M.Matroid.meaning matroid.now) (sheet entries.now) self.old → Along (M.Matroid.meaning matroid.now) (sheet entries.now) self.new }
         ensures stops { Along (M.Matroid.meaning matroid.now) (sheet entries.now) self.old → Stops (M.Matroid.meaning matroid.now) (sheet entries.now) (taken_of self.new) (kept_of self.new) (ended result) }
     {
-        go_on(matroid, entries, &mut self.taken, &mut self.kept)
+        let Progress { taken, kept } = self;
+        let ground = Ground {
+            entries,
+            n: matroid.size(),
+        };
+        while let Some(e) = ground.next(taken) {
+            match closed_if_asked(matroid, kept, e) {
+                None => kept[e as usize] = true,
+                Some(circuit) if ground.is_topped(&circuit, e) => {}
+                Some(circuit) => return Walk::Open(circuit),
+            }
+            taken[e as usize] = true;
+        }
+        Walk::Settled(*kept)
     }
 
     // Goes back to where the walk over the entries has come to, in which x is known, and was a range with the high end before.

@@ -4,12 +4,13 @@ use Rattle.entry.specs.Held.{sheet}
 use Rattle.matroid.specs.Sets.{count}
 use Rattle.matroid.specs.Questions.{marked}
 use Rattle.walk.specs.Stages.{Reached}
-use Rattle.walk.proofs.progress.go_on.Given as goal
+use Rattle.walk.specs.Walked.{Along}
+use Rattle.walk.proofs.progress.Progress.finish.Given as goal
 
 abbrev pub invariant-loop-e : goal.invariant-loop-e
 invariant-loop-e g l =
     (length l.taken ≡ all_marks) × (length l.kept ≡ all_marks)
-    × (Reached (g.M.Matroid.meaning l.matroid) (sheet l.entries) (marked l.initial.taken) (marked l.initial.kept)
+    × (Along (g.M.Matroid.meaning l.matroid) (sheet l.entries) l.fn.self
     → Reached (g.M.Matroid.meaning l.matroid) (sheet l.entries) (marked l.taken) (marked l.kept))
 
 abbrev pub decreases-loop-e : goal.decreases-loop-e
