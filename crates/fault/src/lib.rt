@@ -8,6 +8,7 @@ ghost use Rattle.fault.specs.Words.{sentence};
 
 use element::Element;
 use std::alloc::AllocError;
+use std::error::Error;
 use std::fmt;
 
 // Why a call declined.
@@ -126,3 +127,5 @@ impl fmt::Display for Fault {
         write!(f, "refusal {number} at place {place}, depth {depth}")
     }
 }
+
+impl Error for Fault {}

@@ -57,7 +57,8 @@ impl<S: Source> Memory<S> {
     }
 }
 
-// It keeps every element, and a refusal comes from where it comes below.
+// It keeps every element, and a refusal comes from where it comes below. (`depth` is as in a quota: a provided method of `Source` would give
+// it to sources that stand on nothing.)
 impl<S: Source> Source for Memory<S> {
     ghost meaning = { λ s. remembering (S.Source.meaning s.below) (tabled s.remembered) };
 

@@ -40,6 +40,7 @@ pub fn plan(heap: Global, bytes: &[u8]) -> Result<Vec<u8>, Fault>
 {
     match read(heap, bytes) {
         Ok(sheet) => plan_sheet(heap, &sheet),
+        // This one alone is handed on: the others are told in the plan.
         Err(Fault::NoMemory) => Err(Fault::NoMemory),
         Err(fault) => refused_bytes(heap, fault),
     }

@@ -26,14 +26,14 @@ impl Table {
     pub fn get(&self, element: Element) -> Option<Price>
         ensures { result ≡ tabled self.now element }
     {
-        self.prices[element as usize]
+        self.prices[usize::from(element)]
     }
 
     // Puts a price, or none, at the element's place.
     pub fn set(&mut self, element: Element, price: Option<Price>)
         ensures { tabled self.new ≡ posted (tabled self.old) element price }
     {
-        let place = element as usize;
+        let place = usize::from(element);
         self.prices[place] = price;
     }
 }

@@ -51,7 +51,7 @@ fn gives(answer: Result<Price, Fault>, price: Price) -> bool {
 // A number, a place and a depth: the numbers are what is tested here.
 type Refusal = (u8, u32, u8);
 
-// Whether the answer is the refusal.
+// Whether the answer is the refusal. (Trials of surveys have this line too: one for both would be a crate more.)
 fn refuses(answer: Result<Price, Fault>, refusal: Refusal) -> bool {
     answer.is_err_and(|fault| (fault.number(), fault.place(), fault.depth()) == refusal)
 }

@@ -12,7 +12,6 @@ ghost use Rattle.survey.specs.States.{sourced, state};
 use crate::surveys::Survey;
 use crate::tables::Tables;
 use element::{Element, Line, MARKS};
-use entry::Entry;
 use fault::Fault;
 use matroid::Matroid;
 use source::Source;
@@ -44,27 +43,26 @@ pub(crate) enum Stepped {
     Paid(Line),
 }
 
-// The price call for the pair in an open circuit: the second is pending where it is no known one.
-fn pair_to_price(entries: &[Entry; MARKS], n: Element, marks: &[bool; MARKS]) -> Move
-    ensures { planned result ≡ choose n (sheet entries.now) (marked marks.now) }
-{
-    let (f, g, known) = choose_pair(entries, n, marks);
-    Move::Ask(f, (!known).then_some(g))
-}
-
 impl<M: Matroid + Drop> Survey<M> {
+    // The price call for the pair in an open circuit: the second is pending where it is no known one.
+    fn pair_to_price(&self, marks: &[bool; MARKS]) -> Move
+        ensures { planned result ≡ choose (M.Matroid.meaning self.now.matroid).size (sheet self.now.tables.entries) (marked marks.now) }
+    {
+        let (f, g, known) = choose_pair(&self.tables.entries, self.matroid.size(), marks);
+        Move::Ask(f, (!known).then_some(g))
+    }
+
     // What the survey does next, by the walk that goes on from the progress.
     fn next_move(&self, progress: &mut Progress) -> Move
         requires { Along (M.Matroid.meaning self.now.matroid) (sheet self.now.tables.entries) progress.old }
         ensures next { planned result ≡ next (M.Matroid.meaning self.now.matroid) (state self.now.tables) }
         ensures along { Along (M.Matroid.meaning self.now.matroid) (sheet self.now.tables.entries) progress.new }
     {
-        let entries = &self.tables.entries;
-        match progress.finish(&self.matroid, entries) {
+        match progress.finish(&self.matroid, &self.tables.entries) {
             Walk::Settled(kept) => Move::Rest(kept),
             Walk::Open(marks) => match self.tables.due() {
                 Some(element) => Move::Ask(element, None),
-                None => pair_to_price(entries, self.matroid.size(), &marks),
+                None => self.pair_to_price(&marks),
             },
         }
     }

@@ -9,6 +9,7 @@ use crate::tables::Tables;
 use element::{Element, Line, Price};
 use entry::Entry;
 
+// Indices are cast here: the invariant's proof would have to carry the result of each call `usize::from`.
 impl Tables {
     // Makes the element known at the price, with a line in the ledger.
     pub fn pay(&mut self, element: Element, price: Price, pending: Option<Element>)

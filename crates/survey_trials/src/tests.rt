@@ -14,7 +14,7 @@ use std::alloc::Global;
 use std::test::Fail;
 use survey::Survey;
 
-// A source at the largest depth, with one price for all.
+// A source at the largest depth, with one price for all. (Trials of sources have one of their own: a source for both would be a crate more.)
 #[derive(Drop)]
 struct Uniform {
     price: Price,
@@ -87,7 +87,7 @@ fn quota(third: Price, number: u32) -> Quota<Table> {
 // A number, a place and a depth: the numbers are what is tested here.
 type Refusal = (u8, u32, u8);
 
-// Whether the answer is the refusal.
+// Whether the answer is the refusal. (Trials of sources have this line too: one for both would be a crate more.)
 fn refuses<T: Drop>(answer: Result<T, Fault>, refusal: Refusal) -> bool {
     answer.is_err_and(|fault| (fault.number(), fault.place(), fault.depth()) == refusal)
 }
@@ -122,7 +122,7 @@ fn run_refuses<S: Source>(survey: &mut Survey<Routes>, source: &mut S, refusal: 
     refuses(survey.run(source), refusal)
 }
 
-// Whether a report into marks that are all set is refused so, and leaves them.
+// Whether a report into marks that are all set is refused with the number, at no place and no depth, and leaves them.
 fn report_refuses(survey: &Survey<Routes>, marks: &mut [bool], number: u8) -> bool {
     refuses(survey.report(marks), (number, 0, 0)) && marks.iter().all(|mark| *mark)
 }
