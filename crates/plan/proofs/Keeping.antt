@@ -6,14 +6,8 @@ use Rattle.std.proofs.lemmas.List.Sums.{count_by_more_no, count_by_more_yes}
 use Rattle.std.proofs.lemmas.Bool.{cases_Bool, cases_lt, cond-true, cond-false}
 use Rattle.matroid.specs.Questions.{marked}
 use Rattle.matroid.specs.Sets.{count, sum}
+use Rattle.matroid.proofs.Walks.{first_left}
 use Rattle.plan.specs.Texts.{each_kept}
-
--- the first of the marks that are left
-first_left : (marks : List Bool) (i : ℕ) (mark : Bool) (rest : List Bool) → drop i marks ≡ mark ∷ rest → (marked marks i ≡ mark) × (rest ≡ drop (suc i) marks)
-first_left [] zero mark rest e = absurd (cc)
-first_left [] (suc i) mark rest e = absurd (cc)
-first_left (x ∷ xs) zero mark rest e = (cc, cc)
-first_left (x ∷ xs) (suc i) mark rest e = first_left xs i mark rest e
 
 -- a walk through the first n marks has come to number i; `left` are all marks that are left
 pub record Walk (marks : List Bool) (n i end : ℕ) (left : List Bool) : Type 0 where
@@ -28,7 +22,7 @@ module _ {marks left rest : List Bool} {n i j k end after : ℕ} {mark : Bool} (
   next = sym (add-one i) ∙ sym step.0.1.2
 
   here : (marked marks i ≡ mark) × (rest ≡ drop (suc i) marks)
-  here = first_left marks i mark rest (sym walk.rests ∙ step.1)
+  here = let (_, h, r) = first_left false marks i mark rest (sym walk.rests ∙ step.1) in (h, r)
 
   pub walked : Walk marks n j after rest
   walked = record {

@@ -1,8 +1,6 @@
 -- A price in the tables. Assumes nothing.
-use Rattle.std.proofs.Common.{◌≡◌, ℕ, zero, suc, ◌+◌, ◌<◌, ◌≤◌, Bool, true, false, cond, eqb, List, [], ◌∷◌, length, get_or, set, Some, Ok, Option, sym, refl, ap, ◌∙◌, subst, ⊎_elim, arith}
-use mathlib.Core.Path.{fun_ext}
-use Rattle.std.proofs.lemmas.Bool.{cases_eq, cond-true, cond-false, eq-eqb, ne_eqb, false≢true}
-use Rattle.std.proofs.lemmas.List.{get_or-set_same, get_or-set_other}
+use Rattle.std.proofs.Common.{◌≡◌, ℕ, zero, suc, ◌+◌, ◌<◌, ◌≤◌, Bool, true, false, cond, List, [], ◌∷◌, length, set, Some, Ok, Option, sym, refl, subst, arith}
+use Rattle.std.proofs.lemmas.Bool.{cond-false, false≢true}
 use Rattle.entry.specs.declared.Entry.{Entry as Value}
 use Rattle.entry.specs.declared.Entry.TheVariants.{Known as KnownValue}
 use Rattle.entry.specs.Entries.{Entry, Known, Range, known, inside}
@@ -39,14 +37,6 @@ knowns_set [] e p l h = absurd (omega arith)
 knowns_set (x ∷ xs) zero p l h =
     let z : tally (known (held x)) ≡ 0 = cond-false {A = ℕ} (known (held x)) 1 0 h in omega arith
 knowns_set (x ∷ xs) (suc e) p l h = omega (arith, knowns_set xs e p (omega arith) h)
-
-pub sheet_set : (es : List Value) (e p : ℕ) → e < length es → sheet (set es e (KnownValue p)) ≡ priced (sheet es) e p
-sheet_set es e p l =
-    fun_ext (λ i. ⊎_elim
-    (λ (q : i ≡ e). subst (λ k. held (get_or (set es e (KnownValue p)) k (KnownValue 0)) ≡ cond (eqb k e) (Known p) (sheet es k)) (sym q)
-    (ap held (get_or-set_same es e (KnownValue p) (KnownValue 0) l) ∙ sym (cond-true (eqb e e) (Known p) (sheet es e) (eq-eqb e e refl))))
-    (λ (q : i ≡ e → ⊥). ap held (get_or-set_other es e i (KnownValue p) (KnownValue 0) q) ∙ sym (cond-false (eqb i e) (Known p) (sheet es i) (ne_eqb i e q)))
-    (cases_eq i e))
 
 -- there is room for one more line, and each line still stands for a known entry
 module _ (es : List Value) (u e p : ℕ) (r : u ≤ knowns es) (l : e < length es) (h : inside (sheet es e) p ≡ true) where

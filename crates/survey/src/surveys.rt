@@ -122,7 +122,7 @@ impl<M: Matroid + Drop> Survey<M> {
         Ok(())
     }
 
-    // Shows the base that is settled, whatever its report promises.
+    // Shows the base that is settled: a report without its promise, which is shown of it once.
     fn show_settled(&self, marks: &mut [bool]) -> Result<(), Fault>
         ensures answer { told (λ x. x) result ≡ (report_reply (M.Matroid.meaning self.now.matroid) (state self.now.tables) marks.old).answer }
         ensures marks { marks.new ≡ (report_reply (M.Matroid.meaning self.now.matroid) (state self.now.tables) marks.old).marks }

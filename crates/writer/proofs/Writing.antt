@@ -1,20 +1,12 @@
 -- One text after another. Assumes nothing.
-use Rattle.std.proofs.Common.{◌≡◌, ℕ, ◌+◌, Bool, true, false, cond, List, [], ◌++◌, length, Ok, Err, vec_items, vec_len, Result, Vec, sym, refl, ap, ◌∙◌, subst, inl, inr, arith, length-append}
+use Rattle.std.proofs.Common.{◌≡◌, ℕ, ◌+◌, Bool, true, false, cond, List, ◌++◌, length, Ok, Err, vec_items, vec_len, Result, Vec, sym, refl, ap, ◌∙◌, subst, inl, inr, arith, length-append}
 use Rattle.std.specs.declared.alloc.Global.{Global}
-use Rattle.std.proofs.lemmas.List.{append_assoc, append-nil}
+use Rattle.std.proofs.lemmas.List.{append_assoc}
 use Rattle.std.proofs.lemmas.Bool.{cases_Bool, eq-eqb, false≢true}
 use Rattle.fault.specs.declared.Fault.{Fault}
 use Rattle.fault.specs.Refusals.{Refusal, refusal, refused, starved, told}
 use Rattle.writer.specs.declared.values.Writer.{Writer}
 use Rattle.writer.specs.Written.{Blank, Wrote, finished, full}
-
--- nothing is written
-pub wrote_none : (w : Writer) → Wrote w [] w
-wrote_none w = record {
-  kept = λ e. (e, sym (append-nil (vec_items w.bytes)));
-  lacked = λ e f. absurd (false≢true (sym f ∙ e));
-  room = omega arith;
-}
 
 -- the same text in other words
 pub wrote_as : {old new : Writer} {s t : List ℕ} → s ≡ t → Wrote old s new → Wrote old t new
@@ -47,12 +39,6 @@ no_memory value (Ok x) e = let z : ◌≡◌ {A = ℕ} 0 1 = cc in absurd (omega
 no_memory value (Err f) e =
     let n : refusal f ≡ refused 0 0 0 = cc in
     eq-eqb (refusal f).number 0 (ap (λ (x : Refusal). x.number) n)
-
--- a fault that is a want of memory says nothing of what was wanted
-pub starved_err : {X A : Type 0} (value : X → A) (want : Result A Refusal) (r : Result X Fault) (x f : Fault) → r ≡ Err x → x ≡ f → refusal f ≡ refused 0 0 0 → starved r ≡ false → told value r ≡ want
-starved_err {X} {A} value want r x f p q n s =
-    let e : told value r ≡ Err (refused 0 0 0) = ap (told value) p ∙ (ap (λ f. Err (refusal f)) q ∙ ap (λ (v : Refusal). Err v) n) in
-    absurd (false≢true (sym s ∙ no_memory value r e))
 
 -- what is finished is what was written
 pub written_out : {old new : Writer} {room : ℕ} {t : List ℕ} (r : Result (Vec ℕ Global) Fault) → Blank room old → Wrote old t new → told vec_items r ≡ finished new → starved r ≡ false → told vec_items r ≡ Ok t
