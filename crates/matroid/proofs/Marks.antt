@@ -1,6 +1,6 @@
 -- Marks that are set, and marks that a loop shows one by one.
-use Rattle.std.proofs.Common.{◌≡◌, ℕ, zero, suc, ◌+◌, ◌-◌, ◌<◌, ◌≤◌, Bool, true, false, cond, ◌&&◌, ◌||◌, ltb, leb, List, [], ◌∷◌, Option, Some, None, length, get_or, set, position, replicate, sym, refl, ap, ap₂, ◌∙◌, inl, inr, arith, length-set, get_or-set_other, get_or-set_same}
-use Rattle.std.proofs.lemmas.List.{same_lists, get_or-replicate, get_or_past, get_or_default, length-replicate}
+use Rattle.std.proofs.Common.{◌≡◌, ℕ, zero, suc, ◌+◌, ◌-◌, ◌<◌, ◌≤◌, min, Bool, true, false, cond, ◌&&◌, ◌||◌, ltb, leb, List, [], ◌∷◌, Option, Some, None, length, get_or, set, position, replicate, sym, refl, ap, ap₂, ◌∙◌, inl, inr, arith, length-set, get_or-set_other, get_or-set_same}
+use Rattle.std.proofs.lemmas.List.{same_lists, get_or-replicate, get_or_past, length-replicate}
 use Rattle.std.proofs.lemmas.Bool.{cases_eq, cases_lt, lt-leb, lt-ltb, le-ltb, le-leb, eq-eqb, and_from, cond-true, cond-false}
 use Rattle.std.proofs.lemmas.List.Quantifiers.{position-Some}
 use Rattle.std.proofs.lemmas.List.Sums.{fails_before_first}
@@ -79,21 +79,14 @@ showing_skip C old new k h q = record {
   as_long = h.as_long;
 }
 
--- the marks of an element are shown, and the others stay
-pub showing_element : (C : Elements) (old new : List Bool) (k : ℕ) (b : Bool) → k < length old → k < all_marks → Showing (marked (shown C old)) old new k → b ≡ C k
-    → Showing (marked (shown C old)) old (set new k b) (k + 1)
-showing_element C old new k b l m h q = showing_more (marked (shown C old)) old new k b l h (q ∙ sym (shown_here C old k false l m))
-
-pub showing_other : (C : Elements) (old new : List Bool) (k : ℕ) → k < length old → all_marks ≤ k → Showing (marked (shown C old)) old new k
-    → Showing (marked (shown C old)) old (set new k (get_or new k false)) (k + 1)
-showing_other C old new k l m h =
-    showing_more (marked (shown C old)) old new k (get_or new k false) l h (h.kept k false (omega arith) ∙ sym (shown_beyond C old k false l m))
-
-pub showing_all : (C : Elements) (old new : List Bool) (k : ℕ) → length old ≤ k → Showing (marked (shown C old)) old new k → new ≡ shown C old
+pub showing_all : (C : Elements) (old new : List Bool) (k : ℕ) → k ≡ min (length old) all_marks → Showing C old new k → new ≡ shown C old
 showing_all C old new k y h =
     let e = h.as_long in
     same_lists new (shown C old) (h.as_long ∙ sym (length_shown 0 C old)) (λ j d l.
-    h.done j d (omega arith) ∙ get_or_default (shown C old) j false d (let f = length_shown 0 C old in omega arith))
+    elim (cases_lt j all_marks) [
+      | inl a ↦ h.done j d (omega arith) ∙ sym (shown_here C old j d (omega arith) a)
+      | inr a ↦ h.kept j d (omega arith) ∙ sym (shown_beyond C old j d (omega arith) a)
+    ])
 
 -- the first mark that a search from 0 on comes to is the next, and where it comes to none there is none
 module _ (n : ℕ) (marks : List Bool) (i : ℕ) (before : (k : ℕ) → k < i → (leb n k && marked marks k) ≡ false) where

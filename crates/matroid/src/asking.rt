@@ -54,11 +54,10 @@ pub fn admit(
 pub fn show(members: &[bool; MARKS], n: Element, marks: &mut [bool])
     ensures { marks.new ≡ shown (cut n (marked members.now)) marks.old }
 {
-    // By index among the members: after `iter_mut().zip(..)` no clause says what was written.
-    for (k, mark) in marks.iter_mut().enumerate() {
-        if let Some(member) = members.get(k) {
-            *mark = k < usize::from(n) && *member;
-        }
+    // Marks behind those of a set are not gone through. By index: after `iter_mut().zip(..)` no clause says what was written.
+    let count = marks.len().min(MARKS);
+    for (k, member) in members[..count].iter().enumerate() {
+        marks[k] = k < usize::from(n) && *member;
     }
 }
 
