@@ -14,7 +14,7 @@ mod texts;
 
 use crate::planning::plan_sheet;
 use fault::Fault;
-use sheet::{put_number, read};
+use sheet::{put_decimal, put_number, read};
 use std::alloc::Global;
 use writer::Writer;
 
@@ -27,7 +27,7 @@ fn refused_bytes(heap: Global, fault: Fault) -> Result<Vec<u8>, Fault>
 {
     let mut writer = Writer::with_room(heap, REFUSED_BYTES)?;
     writer.put(b"refused ");
-    put_number(&mut writer, fault.number(), b' ');
+    put_decimal(&mut writer, fault.number(), b' ');
     put_number(&mut writer, fault.place(), b'\n');
     writer.finish()
 }

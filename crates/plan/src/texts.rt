@@ -13,7 +13,7 @@ use crate::naming::Named;
 use element::{Element, MARKS};
 use fault::Fault;
 use matroid::Matroid;
-use sheet::{Body, put_number, write_lines};
+use sheet::{Body, put_decimal, put_number, put_price, write_lines};
 use survey::Survey;
 use writer::Writer;
 
@@ -59,9 +59,9 @@ impl<'a, P: Drop, T: Named<P> + Drop, M: Matroid + Drop> Surveyed<'a, P, T, M> {
         ensures { Wrote writer.old (kept_line (state self.now.survey.now.tables).entries (held_names T.Named.named self.now.body.now) i) writer.new }
     {
         let entry = self.survey.entry(i);
-        put_number(writer, i, b' ');
-        put_number(writer, entry.low(), b' ');
-        put_number(writer, entry.high(), b' ');
+        put_decimal(writer, i, b' ');
+        put_price(writer, entry.low(), b' ');
+        put_price(writer, entry.high(), b' ');
         if let Some(line) = self.body.elements.get(usize::from(i)) {
             line.tail.put_named(writer, &self.body.places);
         }
@@ -82,12 +82,12 @@ impl<'a, P: Drop, T: Named<P> + Drop, M: Matroid + Drop> Surveyed<'a, P, T, M> {
     fn put_kept(&self, writer: &mut Writer)
         ensures { Wrote writer.old (kept_text self.now.n (state self.now.survey.now.tables).entries (held_names T.Named.named self.now.body.now) (marked self.now.marks.now)) writer.new }
     {
-        put_number(writer, self.count(), b'\n');
+        put_decimal(writer, self.count(), b'\n');
         self.put_lines(writer);
         let (lows, highs) = self.totals();
         writer.put(b"total ");
-        put_number(writer, lows, b' ');
-        put_number(writer, highs, b'\n');
+        put_decimal(writer, lows, b' ');
+        put_decimal(writer, highs, b'\n');
     }
 
     // A run that came to a base.
@@ -104,9 +104,9 @@ impl<'a, P: Drop, T: Named<P> + Drop, M: Matroid + Drop> Surveyed<'a, P, T, M> {
         ensures { Wrote writer.old (stopped_text (refusal fault) (state self.now.survey.now.tables)) writer.new }
     {
         writer.put(b"stopped ");
-        put_number(writer, fault.number(), b' ');
+        put_decimal(writer, fault.number(), b' ');
         put_number(writer, fault.place(), b' ');
-        put_number(writer, fault.depth(), b'\n');
+        put_decimal(writer, fault.depth(), b'\n');
         write_lines(writer, self.survey.ledger());
     }
 

@@ -29,7 +29,7 @@ NoRoute rs marks = (i : ℕ) → i < length rs → marked marks i ≡ false
 
 module _ (rs : List Route) (ends : EndsArePlaces (length rs) rs) where
   -- nothing is left
-  empty_independent : (S : Elements) (core : List Bool) → CoreOf rs S (marked core) → NoRoute rs core → (routes_of rs).independent S ≡ true
+  pub empty_independent : (S : Elements) (core : List Bool) → CoreOf rs S (marked core) → NoRoute rs core → (routes_of rs).independent S ≡ true
   empty_independent S core k h = core_none (length rs) all_places (from rs) (to rs) ends.froms ends.tos S (marked core) k h
 
   -- something is left

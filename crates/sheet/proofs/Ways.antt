@@ -16,7 +16,7 @@ abbrev pub after : {A : Type 0} → List A → Got (List A) → Got (List A)
 after xs (got ys r m) = got (xs ++ ys) r m
 after xs (stop c m) = stop c m
 
-last_push : {A : Type 0} (o : Option A) (xs : List A) (a : A) → last_or o (xs ++ (a ∷ [])) ≡ Some a
+pub last_push : {A : Type 0} (o : Option A) (xs : List A) (a : A) → last_or o (xs ++ (a ∷ [])) ≡ Some a
 last_push o [] a = refl
 last_push o (x ∷ xs) a = last_push (Some x) xs a
 
@@ -28,7 +28,7 @@ after_more xs a (stop c m) = refl
 pub record Sofar {A : Type 0} (item : Option A → Step A) (g : Got (List A)) (xs : List A) (k : ℕ) (bs : List ℕ) (n : ℕ) : Type 0 where
   pub is : g ≡ after xs (repeated item (last_or None xs) k bs n)
 
-sofar_more : {A : Type 0} {item : Option A → Step A} {g : Got (List A)} {xs : List A} {k : ℕ} {bs : List ℕ} {n : ℕ} {a : A} {r : List ℕ} {m : ℕ} → Sofar item g xs (suc k) bs n → item (last_or None xs) bs n ≡ got a r m → Sofar item g (xs ++ (a ∷ [])) k r m
+pub sofar_more : {A : Type 0} {item : Option A → Step A} {g : Got (List A)} {xs : List A} {k : ℕ} {bs : List ℕ} {n : ℕ} {a : A} {r : List ℕ} {m : ℕ} → Sofar item g xs (suc k) bs n → item (last_or None xs) bs n ≡ got a r m → Sofar item g (xs ++ (a ∷ [])) k r m
 sofar_more {item} {g} {xs} {k} {bs} {n} {a} {r} {m} s e = record {
   is =
       s.is ∙

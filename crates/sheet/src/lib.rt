@@ -23,7 +23,7 @@ pub use sections::{write_lines, write_sheet};
 use std::alloc::Global;
 pub use values::{Body, ByKind, ElementLine, Lot, Sheet};
 use writer::Writer;
-pub use writing::{put_field, put_number, put_word};
+pub use writing::{put_decimal, put_field, put_number, put_price, put_word};
 
 // The most bytes of a sheet.
 const MOST_BYTES: usize = 65_536;

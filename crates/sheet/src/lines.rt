@@ -11,7 +11,7 @@ ghost use Rattle.sheet.specs.Readers.{Reads, before_of, raw_of, room, seen};
 use crate::fields::{number_in, word_in};
 use crate::reader::{RawEntry, Reader};
 use crate::values::{ElementLine, Lot};
-use crate::writing::{put_entry, put_field, put_number, put_word};
+use crate::writing::{put_decimal, put_entry, put_field, put_number, put_price, put_word};
 use element::{Element, Line, Place};
 use entry::Entry;
 use fault::Fault;
@@ -119,8 +119,8 @@ impl<'a> Row<'a> for Line {
     }
 
     fn write(&self, writer: &mut Writer) {
-        put_number(writer, self.element, b' ');
-        put_number(writer, self.price, b'\n');
+        put_decimal(writer, self.element, b' ');
+        put_price(writer, self.price, b'\n');
     }
 }
 
@@ -181,8 +181,8 @@ impl<'a> Tail<'a> for Route {
     }
 
     fn write(&self, writer: &mut Writer) {
-        put_number(writer, self.from, b' ');
-        put_number(writer, self.to, b'\n');
+        put_decimal(writer, self.from, b' ');
+        put_decimal(writer, self.to, b'\n');
     }
 }
 
@@ -202,7 +202,7 @@ impl<'a> Tail<'a> for Place {
     }
 
     fn write(&self, writer: &mut Writer) {
-        put_number(writer, *self, b'\n');
+        put_decimal(writer, *self, b'\n');
     }
 }
 

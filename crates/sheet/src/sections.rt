@@ -10,7 +10,7 @@ ghost use Rattle.sheet.specs.Readers.{Empty, Reads};
 use crate::lines::{Row, Tail};
 use crate::reader::{Limits, Reader};
 use crate::values::{Body, ByKind, Sheet};
-use crate::writing::{put_field, put_number};
+use crate::writing::{put_decimal, put_field, put_number};
 use element::{Line, Place};
 use fault::Fault;
 use form::Kind;
@@ -135,7 +135,7 @@ fn write_section<'a, R: Row<'a>>(writer: &mut Writer, items: &[R])
     ensures { Wrote writer.old (a_section R.Row.text (map R.Row.value items.now)) writer.new }
 {
     // No `From` leads from usize to u64; the cast loses nothing.
-    put_number(writer, items.len() as u64, b'\n');
+    put_decimal(writer, items.len() as u64, b'\n');
     for item in items {
         item.write(writer);
     }

@@ -1,10 +1,11 @@
 // The fields of a sheet, as they are written.
 ghost use Rattle.std.specs.Prelude.{◌≡◌, ℕ, [], ◌∷◌, ◌++◌, map, decimal};
 ghost use Rattle.entry.specs.Held.{held};
-ghost use Rattle.form.specs.Sheets.{entry_text, word_text};
+ghost use Rattle.form.specs.Sheets.{entry_text, price_text, word_text};
 ghost use Rattle.writer.specs.Written.{Wrote};
 ghost use Rattle.sheet.specs.Code.{bit_of, ones};
 
+use element::Price;
 use entry::Entry;
 use writer::Writer;
 
@@ -16,12 +17,26 @@ pub fn put_field(writer: &mut Writer, field: &[u8], end: u8)
     writer.byte(end);
 }
 
-// A number or a price, and the byte that ends it.
-pub fn put_number<N: Into<u64>>(writer: &mut Writer, n: N, end: u8)
+// A number of any width that becomes one of 64 bits, and the byte that ends it.
+pub fn put_decimal<N: Into<u64>>(writer: &mut Writer, n: N, end: u8)
     ensures { (d : ℕ) × N.converts n d × Wrote writer.old (decimal d ++ (end ∷ [])) writer.new }
 {
     writer.number(n.into());
     writer.byte(end);
+}
+
+// A number, and the byte that ends it.
+pub fn put_number(writer: &mut Writer, n: u32, end: u8)
+    ensures { Wrote writer.old (decimal n ++ (end ∷ [])) writer.new }
+{
+    put_decimal(writer, n, end);
+}
+
+// A price or an end of a range, and the byte that ends it.
+pub fn put_price(writer: &mut Writer, price: Price, end: u8)
+    ensures { Wrote writer.old (price_text price ++ (end ∷ [])) writer.new }
+{
+    put_number(writer, price, end);
 }
 
 // The letter of an entry, and its price or its two ends.
@@ -31,12 +46,12 @@ pub fn put_entry(writer: &mut Writer, entry: &Entry)
     match entry {
         Entry::Known(price) => {
             put_field(writer, b"k", b' ');
-            put_number(writer, *price, b' ');
+            put_price(writer, *price, b' ');
         }
         Entry::Range(_) => {
             put_field(writer, b"r", b' ');
-            put_number(writer, entry.low(), b' ');
-            put_number(writer, entry.high(), b' ');
+            put_price(writer, entry.low(), b' ');
+            put_price(writer, entry.high(), b' ');
         }
     }
 }

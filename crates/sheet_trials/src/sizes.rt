@@ -1,7 +1,7 @@
 use crate::refusals::{Refusal, why_refused};
 use crate::sheets::back_again;
 use fault::Fault;
-use sheet::put_number;
+use sheet::put_decimal;
 use std::alloc::{AllocError, Global};
 use std::iter::repeat_n;
 use std::test::Fail;
@@ -11,12 +11,12 @@ use writer::Writer;
 fn lamps(heap: Global, lamps: u64, elements: u64, records: u64) -> Result<Vec<u8>, Fault> {
     let mut writer = Writer::with_room(heap, 65_536)?;
     writer.put(b"words 9\n");
-    put_number(&mut writer, lamps, b'\n');
+    put_decimal(&mut writer, lamps, b'\n');
     for i in 0..lamps {
         writer.byte(b'x');
-        put_number(&mut writer, i, b'\n');
+        put_decimal(&mut writer, i, b'\n');
     }
-    put_number(&mut writer, elements, b'\n');
+    put_decimal(&mut writer, elements, b'\n');
     for _ in 0..elements {
         writer.put(b"r 3 5 ");
         for i in 0..lamps {
@@ -24,9 +24,9 @@ fn lamps(heap: Global, lamps: u64, elements: u64, records: u64) -> Result<Vec<u8
         }
         writer.byte(b'\n');
     }
-    put_number(&mut writer, records, b'\n');
+    put_decimal(&mut writer, records, b'\n');
     for i in 0..records {
-        put_number(&mut writer, i, b' ');
+        put_decimal(&mut writer, i, b' ');
         writer.put(b"4\n");
     }
     writer.finish()
