@@ -1,3 +1,4 @@
+mod Following
 mod Listing
 mod Paying
 mod Refusing

@@ -82,6 +82,24 @@ impl<M: Matroid + Drop> Survey<M> {
         Ok(())
     }
 
+    // A run and then a report: `run_and_report` without its promises, which are shown of it once.
+    fn run_and_show<S: Source>(&mut self, source: &mut S, marks: &mut [bool]) -> Result<(), Fault>
+        ensures matroid { self.new.matroid ≡ self.old.matroid }
+        ensures answer { told (λ x. x) result ≡ (followed (run_reply (S.Source.meaning source.old).depth (S.Source.origin source.new) (run (M.Matroid.meaning self.old.matroid) (state self.old.tables) (sourced S.Source.meaning S.Source.keeps source.old)).answer) marks.old (report_reply (M.Matroid.meaning self.old.matroid) (run (M.Matroid.meaning self.old.matroid) (state self.old.tables) (sourced S.Source.meaning S.Source.keeps source.old)).survey marks.old)).answer }
+        ensures marks { marks.new ≡ (followed (run_reply (S.Source.meaning source.old).depth (S.Source.origin source.new) (run (M.Matroid.meaning self.old.matroid) (state self.old.tables) (sourced S.Source.meaning S.Source.keeps source.old)).answer) marks.old (report_reply (M.Matroid.meaning self.old.matroid) (run (M.Matroid.meaning self.old.matroid) (state self.old.tables) (sourced S.Source.meaning S.Source.keeps source.old)).survey marks.old)).marks }
+        ensures survey { state self.new.tables ≡ (run (M.Matroid.meaning self.old.matroid) (state self.old.tables) (sourced S.Source.meaning S.Source.keeps source.old)).survey }
+        ensures source { sourced S.Source.meaning S.Source.keeps source.new ≡ (run (M.Matroid.meaning self.old.matroid) (state self.old.tables) (sourced S.Source.meaning S.Source.keeps source.old)).source }
+        ensures small { (M.Matroid.meaning self.old.matroid).size ≤ all_marks }
+    {
+        let size = self.matroid.size();
+        let kept = self.run_to_base(source)?;
+        if marks.len() < MARKS {
+            return Err(Fault::TooFewMarks);
+        }
+        show(&kept, size, marks);
+        Ok(())
+    }
+
     // Runs, and where it is finished shows the base that is settled, in the first marks: a run and then a report, by one walk.
     pub fn run_and_report<S: Source>(
         &mut self,
@@ -93,13 +111,11 @@ impl<M: Matroid + Drop> Survey<M> {
         ensures marks { marks.new ≡ (followed (run_reply (S.Source.meaning source.old).depth (S.Source.origin source.new) (run (M.Matroid.meaning self.old.matroid) (state self.old.tables) (sourced S.Source.meaning S.Source.keeps source.old)).answer) marks.old (report_reply (M.Matroid.meaning self.old.matroid) (run (M.Matroid.meaning self.old.matroid) (state self.old.tables) (sourced S.Source.meaning S.Source.keeps source.old)).survey marks.old)).marks }
         ensures survey { state self.new.tables ≡ (run (M.Matroid.meaning self.old.matroid) (state self.old.tables) (sourced S.Source.meaning S.Source.keeps source.old)).survey }
         ensures source { sourced S.Source.meaning S.Source.keeps source.new ≡ (run (M.Matroid.meaning self.old.matroid) (state self.old.tables) (sourced S.Source.meaning S.Source.keeps source.old)).source }
+        ensures unpaid { Unpaid (run (M.Matroid.meaning self.old.matroid) (state self.old.tables) (sourced S.Source.meaning S.Source.keeps source.old)) }
+        ensures progress { Progresses (M.Matroid.meaning self.old.matroid) (state self.old.tables) (sourced S.Source.meaning S.Source.keeps source.old) }
+        ensures promise { Assures (M.Matroid.meaning self.old.matroid) (state self.new.tables) (told (λ x. x) result) marks.new }
     {
-        let kept = self.run_to_base(source)?;
-        if marks.len() < MARKS {
-            return Err(Fault::TooFewMarks);
-        }
-        show(&kept, self.matroid.size(), marks);
-        Ok(())
+        self.run_and_show(source, marks)
     }
 
     // Makes a price known that was learnt elsewhere: the ledger stays as it was.
