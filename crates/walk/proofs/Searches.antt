@@ -1,8 +1,8 @@
 -- What searches of the numbers below n come to.
-use Rattle.std.proofs.Common.{◌≡◌, ℕ, zero, suc, ◌+◌, ◌<◌, ◌≤◌, Bool, true, false, not, ◌&&◌, ◌||◌, List, ◌∷◌, length, get_or, Some, None, Option, sym, refl, ap, ◌∙◌, subst, inl, inr, arith}
+use Rattle.std.proofs.Common.{◌≡◌, ℕ, zero, suc, ◌+◌, ◌<◌, ◌≤◌, max, Bool, true, false, not, ◌&&◌, ◌||◌, ◌⊎◌, List, ◌∷◌, map, length, get_or, fold, Some, None, Option, sym, refl, ap, ◌∙◌, subst, inl, inr, arith}
 use Rattle.std.specs.Bool.{MatchBool}
 use Rattle.std.specs.Option.{MatchOption, IsSomeAnd, unwrap_or}
-use Rattle.std.specs.List.{HoldsAt, AllWithin, filter, range_with_len, slice_get}
+use Rattle.std.specs.List.{HoldsAt, AllWithin, filter, range_with_len, slice_get, reduce}
 use denote.Param.Members.{Mut, Called}
 use denote.Ref.{Bor}
 use Rattle.std.specs.Fn.{CalledAt}
@@ -19,7 +19,7 @@ use Rattle.std.proofs.lemmas.Iterator.{YieldsList, YieldsList-from_range, items_
 use Rattle.std.proofs.lemmas.List.FromFn.{length-range_with_len, get_or-range_with_len}
 use Rattle.std.proofs.lemmas.Bool.Decides.{nat_tests}
 use Rattle.std.proofs.lemmas.Grind.{common_steps}
-use Rattle.std.proofs.lemmas.Bool.{both_ways, not_from_true, not_from_false, cond-true, cond-false, cases_Bool, cases_eq}
+use Rattle.std.proofs.lemmas.Bool.{both_ways, not_from_true, not_from_false, cond-true, cond-false, cases_Bool, cases_eq, cases_lt}
 use Rattle.matroid.specs.Sets.{Elements, every, lowest}
 use Rattle.matroid.proofs.Members.{none_false, every_from, every_not, lowest_none, lowest_is}
 use Rattle.walk.specs.Walked.{found}
@@ -162,3 +162,87 @@ best_is C q r ahead same most first n (Some m) h =
     (grind (arith, nat_tests, h.member, every_from n (λ j. q j || r m j) (λ j l. grind (arith, nat_tests, same j, most m j, h.most j l))))
     (λ i l. grind (arith, nat_tests, same m, h.member, first m i l, h.most i, every_not n (λ j. q j || r i j) m h.below)) in
     grind (arith, nat_tests)
+
+-- ## Of the first that passes
+
+-- what `find` answers, of the numbers that pass
+pub first_is : (C : Elements) (n : ℕ) (o : Option ℕ)
+    → MatchOption o ((k : ℕ) → 0 ≤ k → k < n → C k ≡ false) (λ i. (0 ≤ i) × (i < n) × (C i ≡ true) × ((k : ℕ) → 0 ≤ k → k < i → C k ≡ false)) → o ≡ found n (lowest n C)
+first_is C n None h = let e = lowest_none n C (λ i l. h i (omega arith) l) in grind (arith, nat_tests)
+first_is C n (Some m) h = let b = h.1 in let e = lowest_is n C m h.1 h.2 (λ i l. h.3 i (omega arith) l) in grind (arith, nat_tests)
+
+-- the largest of what h makes of the numbers that pass
+module _ (C : Elements) (h : ℕ → ℕ) where
+  abbrev passing_from : ℕ → ℕ → List ℕ
+  passing_from a n = map h (filter C (range_with_len a n))
+
+  -- r is at least m and all of them from a on, and is one of these
+  record Tops (a n m r : ℕ) : Type 0 where
+    least : m ≤ r
+    most : (j : ℕ) → a ≤ j → j < a + n → C j ≡ true → h j ≤ r
+    one : (r ≡ m) ⊎ ((i : ℕ) × (a ≤ i) × (i < a + n) × (C i ≡ true) × (h i ≡ r))
+
+  tops : (n a m : ℕ) → Tops a n m (fold max m (passing_from a n))
+  tops zero a m = record { least = omega arith; most = λ j l u c. absurd (omega arith); one = inl refl }
+  tops (suc n) a m = elim (cases_Bool (C a)) [
+    | inl q ↦ subst (λ (xs : List ℕ). Tops a (suc n) m (fold max m (map h xs))) (sym (cond-true (C a) (a ∷ rest) rest q)) (here q (tops n (a + 1) (max m (h a))))
+    | inr q ↦ subst (λ (xs : List ℕ). Tops a (suc n) m (fold max m (map h xs))) (sym (cond-false (C a) (a ∷ rest) rest q)) (there q (tops n (a + 1) m))
+  ]
+    where
+      rest : List ℕ
+      rest = filter C (range_with_len (a + 1) n)
+
+      here : C a ≡ true → Tops (a + 1) n (max m (h a)) (fold max (max m (h a)) (map h rest)) → Tops a (suc n) m (fold max m (map h (a ∷ rest)))
+      here q t = let x = t.least in record {
+        least = omega arith;
+        most = λ j l u c. elim (cases_eq j a) [ inl e ↦ subst (λ (i : ℕ). h i ≤ fold max (max m (h a)) (map h rest)) (sym e) (omega arith) | inr d ↦ t.most j (omega arith) (omega arith) c ];
+        one = elim t.one [
+          | inl e ↦ elim (cases_lt m (h a)) [ inl l ↦ inr (a, omega arith, omega arith, q, omega arith) | inr l ↦ inl (omega arith) ]
+          | inr w ↦ inr (w.0, (let y = w.1 in omega arith), (let y = w.2 in omega arith), w.3, w.4)
+        ];
+      }
+
+      there : C a ≡ false → Tops (a + 1) n m (fold max m (map h rest)) → Tops a (suc n) m (fold max m (map h rest))
+      there q t = let x = t.least in record {
+        least = x;
+        most = λ j l u c. elim (cases_eq j a) [ inl e ↦ absurd (both_ways (C a) q (subst (λ (i : ℕ). C i ≡ true) e c)) | inr d ↦ t.most j (omega arith) (omega arith) c ];
+        one = elim t.one [ inl e ↦ inl e | inr w ↦ inr (w.0, (let y = w.1 in omega arith), (let y = w.2 in omega arith), w.3, w.4) ];
+      }
+
+  -- none passes from a on, or r is one of them, and none is larger
+  abbrev Top : ℕ → ℕ → Option ℕ → Type 0
+  Top a n o =
+      MatchOption o ((i : ℕ) → a ≤ i → i < a + n → C i ≡ false)
+      (λ r. ((j : ℕ) → a ≤ j → j < a + n → C j ≡ true → h j ≤ r) × ((i : ℕ) × (a ≤ i) × (i < a + n) × (C i ≡ true) × (h i ≡ r)))
+
+  top : (n a : ℕ) → Top a n (reduce max (passing_from a n))
+  top zero a = λ i l u. absurd (omega arith)
+  top (suc n) a = elim (cases_Bool (C a)) [
+    | inl q ↦ subst (λ (xs : List ℕ). Top a (suc n) (reduce max (map h xs))) (sym (cond-true (C a) (a ∷ rest) rest q)) (here q (tops n (a + 1) (h a)))
+    | inr q ↦ subst (λ (xs : List ℕ). Top a (suc n) (reduce max (map h xs))) (sym (cond-false (C a) (a ∷ rest) rest q)) (there (reduce max (map h rest)) q (top n (a + 1)))
+  ]
+    where
+      rest : List ℕ
+      rest = filter C (range_with_len (a + 1) n)
+
+      here : C a ≡ true → Tops (a + 1) n (h a) (fold max (h a) (map h rest)) → Top a (suc n) (Some (fold max (h a) (map h rest)))
+      here q t =
+          let x = t.least in (
+            λ j l u c. elim (cases_eq j a) [ inl e ↦ subst (λ (i : ℕ). h i ≤ fold max (h a) (map h rest)) (sym e) x | inr d ↦ t.most j (omega arith) (omega arith) c ],
+            elim t.one [ inl e ↦ (a, omega arith, omega arith, q, sym e) | inr w ↦ (w.0, (let y = w.1 in omega arith), (let y = w.2 in omega arith), w.3, w.4) ],
+          )
+
+      there : (o : Option ℕ) → C a ≡ false → Top (a + 1) n o → Top a (suc n) o
+      there None q t = λ i l u. elim (cases_eq i a) [ inl e ↦ subst (λ (x : ℕ). C x ≡ false) (sym e) q | inr d ↦ t i (omega arith) (omega arith) ]
+      there (Some r) q t = (
+        λ j l u c. elim (cases_eq j a) [ inl e ↦ absurd (both_ways (C a) q (subst (λ (i : ℕ). C i ≡ true) e c)) | inr d ↦ t.0 j (omega arith) (omega arith) c ],
+        let w = t.1 in (w.0, (let y = w.1 in omega arith), (let y = w.2 in omega arith), w.3, w.4),
+      )
+
+  pub top_all : (n : ℕ) (o : Option ℕ) → o ≡ reduce max (map h (filter C (range_with_len 0 n)))
+      → MatchOption o ((i : ℕ) → i < n → C i ≡ false) (λ r. ((j : ℕ) → j < n → C j ≡ true → h j ≤ r) × ((i : ℕ) × (i < n) × (C i ≡ true) × (h i ≡ r)))
+  top_all n o e = by o (subst (Top 0 n) (sym e) (top n 0))
+    where
+      by : (o : Option ℕ) → Top 0 n o → MatchOption o ((i : ℕ) → i < n → C i ≡ false) (λ r. ((j : ℕ) → j < n → C j ≡ true → h j ≤ r) × ((i : ℕ) × (i < n) × (C i ≡ true) × (h i ≡ r)))
+      by None t = λ i l. t i (omega arith) (omega arith)
+      by (Some r) t = (λ j l c. t.0 j (omega arith) (omega arith) c, let w = t.1 in (w.0, (let y = w.2 in omega arith), w.3, w.4))

@@ -4,8 +4,9 @@
 --     Askable m K e    the circuit that e closes over K may be asked for
 --     Closed m K e o   o has the marks of that circuit, if there is one
 --     found n k        the number k where it is below n, and else none
+--     Highest n E C o  o is the largest high of a member below n, if there is one
 use Rattle.std.specs.Prelude.{◌≡◌, ℕ, ◌<◌, ◌≤◌, Bool, true, false, List, Some, None, Option, cond, nat_lt}
-use Rattle.entry.specs.Entries.{Entry}
+use Rattle.entry.specs.Entries.{Entry, high}
 use Rattle.matroid.specs.Sets.{Elements, with}
 use Rattle.matroid.specs.Matroids.{Meaning}
 use Rattle.matroid.specs.Circuits.{circuit}
@@ -46,3 +47,8 @@ Closed m K e (Some marks) = (m.independent (with K e) ≡ false) × (marked mark
 -- a search below n answers n for none
 abbrev pub found : ℕ → ℕ → Option ℕ
 found n k = cond (nat_lt k n) (Some k) None
+
+-- no member is below n, or h is the high of one, and none has a larger
+abbrev pub Highest : ℕ → (ℕ → Entry) → Elements → Option ℕ → Type 0
+Highest n E C None = (i : ℕ) → i < n → C i ≡ false
+Highest n E C (Some h) = ((j : ℕ) → j < n → C j ≡ true → high (E j) ≤ h) × ((i : ℕ) × (i < n) × (C i ≡ true) × (high (E i) ≡ h))

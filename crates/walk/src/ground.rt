@@ -1,16 +1,16 @@
 // The elements that a walk goes over, with their entries.
-ghost use Rattle.std.specs.Prelude.{◌≡◌, length};
+ghost use Rattle.std.specs.Prelude.{◌≡◌, ◌&&◌, length};
 ghost use Rattle.element.specs.Marks.{all_marks};
 ghost use Rattle.entry.specs.Entries.{low, high, known};
 ghost use Rattle.entry.specs.Held.{sheet};
+ghost use Rattle.matroid.specs.Sets.{lowest};
 ghost use Rattle.matroid.specs.Questions.{marked};
 ghost use Rattle.promise.specs.Walks.{earlier, earliest, topped, topmost, challenges, rival};
 ghost use Rattle.walk.specs.Stages.{behind, lower};
-ghost use Rattle.walk.specs.Walked.{found};
+ghost use Rattle.walk.specs.Walked.{Highest, found};
 
 use element::{Element, MARKS, Price};
 use entry::Entry;
-use std::cmp::Reverse;
 
 // The elements below n, with the entries that go by their numbers.
 #[derive(Clone, Copy)]
@@ -72,13 +72,22 @@ impl<'a> Ground<'a> {
             .min_by_key(|&i| self.order(i))
     }
 
+    // The largest high of a mark.
+    fn highest(&self, marks: &[bool; MARKS]) -> Option<Price>
+        ensures { Highest self.now.n (sheet self.now.entries.now) (marked marks.now) result }
+    {
+        (0..self.n)
+            .filter(|&i| marks[usize::from(i)])
+            .map(|i| self.high(i))
+            .max()
+    }
+
     // The lowest-numbered mark with the largest high.
     pub(crate) fn topmost(&self, marks: &[bool; MARKS]) -> Option<Element>
         ensures { result ≡ found self.now.n (topmost self.now.n (sheet self.now.entries.now) (marked marks.now)) }
     {
-        (0..self.n)
-            .filter(|&i| marks[usize::from(i)])
-            .min_by_key(|&i| (Reverse(self.high(i)), i))
+        let highest = self.highest(marks)?;
+        (0..self.n).find(|&i| marks[usize::from(i)] && self.high(i) == highest)
     }
 
     // Whether i is another mark than f, with a high above the low of f.
@@ -88,13 +97,29 @@ impl<'a> Ground<'a> {
         marks[usize::from(i)] && i != f && self.low(f) < self.high(i)
     }
 
+    // The lowest-numbered challenger of f that is known.
+    fn known_challenger(&self, marks: &[bool; MARKS], f: Element) -> Option<Element>
+        ensures { result ≡ found self.now.n (lowest self.now.n (λ i. challenges (sheet self.now.entries.now) (marked marks.now) f i && known (sheet self.now.entries.now i))) }
+    {
+        (0..self.n).find(|&i| self.is_challenger(marks, f, i) && self.is_known(i))
+    }
+
+    // The lowest-numbered challenger of f.
+    fn first_challenger(&self, marks: &[bool; MARKS], f: Element) -> Option<Element>
+        ensures { result ≡ found self.now.n (lowest self.now.n (challenges (sheet self.now.entries.now) (marked marks.now) f)) }
+    {
+        (0..self.n).find(|&i| self.is_challenger(marks, f, i))
+    }
+
     // The lowest-numbered challenger of f that is known, or where none is the lowest-numbered one.
     pub(crate) fn rival(&self, marks: &[bool; MARKS], f: Element) -> Option<Element>
         ensures { result ≡ found self.now.n (rival self.now.n (sheet self.now.entries.now) (marked marks.now) f) }
     {
-        (0..self.n)
-            .filter(|&i| self.is_challenger(marks, f, i))
-            .min_by_key(|&i| (!self.is_known(i), i))
+        // A match: of the closure that `or_else` would take no clause says what it answers.
+        match self.known_challenger(marks, f) {
+            None => self.first_challenger(marks, f),
+            known => known,
+        }
     }
 
     // Takes the marks off all elements but those whose low is below the given one.
